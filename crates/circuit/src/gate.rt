@@ -1,0 +1,126 @@
+// Gates: what there is to wire up. `specs/Kinds.antt` says what each kind is.
+ghost use mathlib.Core.Path.{_≡_};
+ghost use Prim.Native.Nat.{_≤_};
+ghost use lib.ListN.{length};
+ghost use Rattle.circuit.specs.Kinds.{letterOf, fewest-inputs, most-inputs};
+ghost use Rattle.circuit.specs.Gates.{kind-of, own-rows};
+
+/// A gate of one input.
+#[derive(Clone, Copy, Debug)]
+pub enum Unary {
+    Buffer,
+    Inverter,
+}
+
+/// A gate of two inputs.
+#[derive(Clone, Copy, Debug)]
+pub enum Binary {
+    And,
+    Or,
+    Xor,
+    Nand,
+    Nor,
+    Xnor,
+}
+
+/// The kinds of gate; a table has one to four inputs.
+#[derive(Clone, Copy, Debug)]
+pub enum Kind {
+    Unary(Unary),
+    Binary(Binary),
+    Table,
+}
+
+/// The input nets of a table, the first the lowest bit of its row number.
+#[derive(Clone, Copy, Debug)]
+pub enum Inputs {
+    One(u8),
+    Two(u8, u8),
+    Three(u8, u8, u8),
+    Four(u8, u8, u8, u8),
+}
+
+/// A gate with its input nets.
+#[derive(Clone, Copy, Debug)]
+pub enum Gate {
+    Unary(Unary, u8),
+    Binary(Binary, u8, u8),
+    Table(Inputs),
+}
+
+impl Kind {
+    /// The letter that stands for the kind in a sheet.
+    pub fn letter(&self) -> char
+        ensures { λ r. ⌜ r ≡ letterOf (now (self .entry)) ⌝ }
+    {
+        match self {
+            Kind::Unary(Unary::Buffer) => 'B',
+            Kind::Unary(Unary::Inverter) => 'I',
+            Kind::Binary(Binary::And) => 'A',
+            Kind::Binary(Binary::Or) => 'O',
+            Kind::Binary(Binary::Xor) => 'X',
+            Kind::Binary(Binary::Nand) => 'D',
+            Kind::Binary(Binary::Nor) => 'R',
+            Kind::Binary(Binary::Xnor) => 'E',
+            Kind::Table => 'L',
+        }
+    }
+
+    /// The least number of inputs of such a gate.
+    pub fn fewest_inputs(&self) -> usize
+        ensures { λ r. ⌜ r ≡ fewest-inputs (now (self .entry)) ⌝ }
+    {
+        match self {
+            Kind::Unary(_) | Kind::Table => 1,
+            Kind::Binary(_) => 2,
+        }
+    }
+
+    /// The greatest number of inputs of such a gate.
+    pub fn most_inputs(&self) -> usize
+        ensures { λ r. ⌜ r ≡ most-inputs (now (self .entry)) ⌝ }
+    {
+        match self {
+            Kind::Unary(_) => 1,
+            Kind::Binary(_) => 2,
+            Kind::Table => 4,
+        }
+    }
+}
+
+impl Inputs {
+    /// How many rows a table of these inputs has.
+    pub fn rows(&self) -> usize
+        ensures { λ r. ⌜ r ≡ own-rows (Gate.Table (now (self .entry))) ⌝ }
+    {
+        match self {
+            Inputs::One(_) => 2,
+            Inputs::Two(_, _) => 4,
+            Inputs::Three(_, _, _) => 8,
+            Inputs::Four(_, _, _, _) => 16,
+        }
+    }
+}
+
+impl Gate {
+    /// The gate's kind.
+    pub fn kind(&self) -> Kind
+        ensures { λ r. ⌜ r ≡ kind-of (now (self .entry)) ⌝ }
+    {
+        match self {
+            Gate::Unary(unary, _) => Kind::Unary(*unary),
+            Gate::Binary(binary, _, _) => Kind::Binary(*binary),
+            Gate::Table(_) => Kind::Table,
+        }
+    }
+
+    /// How many setting rows are the gate's own: a table's rows, and none for any other gate.
+    pub fn rows(&self) -> usize
+        ensures { λ r. ⌜ r ≡ own-rows (now (self .entry)) ⌝ }
+    {
+        match self {
+            Gate::Table(inputs) => inputs.rows(),
+            Gate::Unary(_, _) | Gate::Binary(_, _, _) => 0,
+        }
+    }
+}

@@ -1,0 +1,42 @@
+-- A fault of a sheet: a refusal with its place, and how the readers above add what they know of it.
+use Prim.Native.Nat.{ℕ}
+use mathlib.Core.List.{List, _++_}
+use mathlib.Core.Bool.{cond}
+use lib.Dec.{eqb}
+use lib.Chars.{codes}
+use Rattle.std.specs.Written.{decimal}
+use Rattle.std.specs.declared.result.Result.{Result}
+use Rattle.std.specs.declared.result.Result.the-variants.{Ok, Err}
+use Rattle.refusal.specs.declared.refusal.Refusal.{Refusal}
+use Rattle.refusal.specs.declared.fault.Fault.{Fault}
+use Rattle.refusal.specs.Numbers.{wordsOf}
+
+-- a refusal at a column of a row whose number, and whose sheet, the caller will add
+abbrev pub fault-at : Refusal → ℕ → Fault
+fault-at r c = record { refusal = r; sheet = 0; row = 0; column = c }
+
+-- the same fault, in a row of that number
+abbrev pub moved-to-row : ℕ → Fault → Fault
+moved-to-row k f = record { refusal = f .refusal; sheet = f .sheet; row = k; column = f .column }
+
+-- the same fault, in a sheet of that number
+abbrev pub moved-to-sheet : ℕ → Fault → Fault
+moved-to-sheet k f = record { refusal = f .refusal; sheet = k; row = f .row; column = f .column }
+
+abbrev pub in-row : {X : Type 0} → ℕ → Result X Fault → Result X Fault
+in-row k (Ok x) = Ok x
+in-row k (Err f) = Err (moved-to-row k f)
+
+abbrev pub in-sheet : {X : Type 0} → ℕ → Result X Fault → Result X Fault
+in-sheet k (Ok x) = Ok x
+in-sheet k (Err f) = Err (moved-to-sheet k f)
+
+-- the sheets of a pair by name
+abbrev pub sheet-words : ℕ → List ℕ
+sheet-words k = cond (eqb k 1) (codes "target") (cond (eqb k 2) (codes "specification") (codes "sheet"))
+
+-- a fault in plain words; a fault of the sheet's length is in no row
+abbrev pub fault-words : Fault → List ℕ
+fault-words f =
+    cond (eqb (f .row) 0) (sheet-words (f .sheet) ++ (codes ": " ++ wordsOf (f .refusal)))
+    (sheet-words (f .sheet) ++ (codes ", row " ++ (decimal (f .row) ++ (codes ", column " ++ (decimal (f .column) ++ (codes ": " ++ wordsOf (f .refusal)))))))
