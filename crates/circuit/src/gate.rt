@@ -50,19 +50,19 @@ pub enum Gate {
 
 impl Kind {
     /// The letter that stands for the kind in a sheet.
-    pub fn letter(&self) -> char
+    pub fn letter(&self) -> u8
         ensures { λ r. ⌜ r ≡ letterOf (now (self .entry)) ⌝ }
     {
         match self {
-            Kind::Unary(Unary::Buffer) => 'B',
-            Kind::Unary(Unary::Inverter) => 'I',
-            Kind::Binary(Binary::And) => 'A',
-            Kind::Binary(Binary::Or) => 'O',
-            Kind::Binary(Binary::Xor) => 'X',
-            Kind::Binary(Binary::Nand) => 'D',
-            Kind::Binary(Binary::Nor) => 'R',
-            Kind::Binary(Binary::Xnor) => 'E',
-            Kind::Table => 'L',
+            Kind::Unary(Unary::Buffer) => b'B',
+            Kind::Unary(Unary::Inverter) => b'I',
+            Kind::Binary(Binary::And) => b'A',
+            Kind::Binary(Binary::Or) => b'O',
+            Kind::Binary(Binary::Xor) => b'X',
+            Kind::Binary(Binary::Nand) => b'D',
+            Kind::Binary(Binary::Nor) => b'R',
+            Kind::Binary(Binary::Xnor) => b'E',
+            Kind::Table => b'L',
         }
     }
 

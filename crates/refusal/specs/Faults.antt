@@ -23,6 +23,10 @@ moved-to-row k f = record { refusal = f .refusal; sheet = f .sheet; row = k; col
 abbrev pub moved-to-sheet : ℕ → Fault → Fault
 moved-to-sheet k f = record { refusal = f .refusal; sheet = k; row = f .row; column = f .column }
 
+abbrev pub in-column : {X : Type 0} → ℕ → Result X Refusal → Result X Fault
+in-column c (Ok x) = Ok x
+in-column c (Err r) = Err (fault-at r c)
+
 abbrev pub in-row : {X : Type 0} → ℕ → Result X Fault → Result X Fault
 in-row k (Ok x) = Ok x
 in-row k (Err f) = Err (moved-to-row k f)

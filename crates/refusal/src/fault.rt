@@ -1,7 +1,7 @@
 // A fault of a sheet: a refusal with its place. Readers pass it up by `?`, each adding what it knows.
 ghost use mathlib.Core.Path.{_≡_};
 ghost use Prim.Native.Nat.{ℕ};
-ghost use Rattle.refusal.specs.Faults.{fault-at, in-row, in-sheet, fault-words, sheet-words};
+ghost use Rattle.refusal.specs.Faults.{fault-at, in-column, in-row, in-sheet, fault-words, sheet-words};
 ghost use Rattle.refusal.specs.Numbers.{numberOf};
 ghost use Rattle.std.specs.declared.option.Option.the-variants.{Some};
 use crate::refusal::Refusal;
@@ -57,6 +57,16 @@ pub impl fmt::Display for Fault as FaultDisplay {
             return write!(f, "{sheet}: {words}");
         }
         write!(f, "{sheet}, row {row}, column {column}: {words}")
+    }
+}
+
+/// The same answer; a refusal is a fault at that column.
+pub fn in_column<T>(answer: Result<T, Refusal>, column: u8) -> Result<T, Fault>
+    ensures { λ r. ⌜ r ≡ in-column column answer ⌝ }
+{
+    match answer {
+        Ok(value) => Ok(value),
+        Err(refusal) => Err(Fault::at(refusal, column)),
     }
 }
 

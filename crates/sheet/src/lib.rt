@@ -1,0 +1,3 @@
+// Sheets: reading circuits and pairs from their bytes, with every fault exact, and writing them again.
+mod parts;
+mod rows;

@@ -1,0 +1,6 @@
+pub mod Rows
+pub mod Shapes
+pub mod Decoding
+pub mod FirstFault
+pub mod Read
+pub mod Laws

@@ -1,0 +1,4 @@
+// The laws of the format, as promises.
+
+/// x
+pub fn nothing() {}
