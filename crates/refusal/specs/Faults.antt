@@ -23,17 +23,22 @@ moved-to-row k f = record { refusal = f .refusal; sheet = f .sheet; row = k; col
 abbrev pub moved-to-sheet : ℕ → Fault → Fault
 moved-to-sheet k f = record { refusal = f .refusal; sheet = k; row = f .row; column = f .column }
 
+-- the same answer, with the error changed
+abbrev pub map-err : {X E F : Type 0} → (E → F) → Result X E → Result X F
+map-err move (Ok x) = Ok x
+map-err move (Err e) = Err (move e)
+
+-- the same answer; a refusal is a fault at that column
 abbrev pub in-column : {X : Type 0} → ℕ → Result X Refusal → Result X Fault
-in-column c (Ok x) = Ok x
-in-column c (Err r) = Err (fault-at r c)
+in-column c r = map-err (λ x. fault-at x c) r
 
+-- the same answer; a fault is in that row
 abbrev pub in-row : {X : Type 0} → ℕ → Result X Fault → Result X Fault
-in-row k (Ok x) = Ok x
-in-row k (Err f) = Err (moved-to-row k f)
+in-row k r = map-err (moved-to-row k) r
 
+-- the same answer; a fault is in that sheet
 abbrev pub in-sheet : {X : Type 0} → ℕ → Result X Fault → Result X Fault
-in-sheet k (Ok x) = Ok x
-in-sheet k (Err f) = Err (moved-to-sheet k f)
+in-sheet k r = map-err (moved-to-sheet k) r
 
 -- the sheets of a pair by name
 abbrev pub sheet-words : ℕ → List ℕ

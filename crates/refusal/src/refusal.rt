@@ -1,7 +1,9 @@
 // Why a call is refused. `specs/Numbers.antt` gives each case its number.
 ghost use mathlib.Core.Path.{_≡_};
+ghost use Rattle.refusal.specs.declared.refusal.Refusal.the-variants.{NoMemory};
 ghost use Rattle.refusal.specs.Numbers.{numberOf, wordsOf};
 ghost use Rattle.std.specs.declared.option.Option.the-variants.{Some};
+use std::alloc::AllocError;
 use std::fmt;
 
 /// Every way in which a call of the product is refused.
@@ -131,5 +133,13 @@ pub impl fmt::Display for Refusal as RefusalDisplay {
 
     fn fmt<W: fmt::Write>(&self, f: &mut fmt::Formatter<W>) -> fmt::Result {
         f.write_str(self.words())
+    }
+}
+
+pub impl From<AllocError> for Refusal as AllocRefusal {
+    ghost converts = { λ _ r. r ≡ NoMemory };
+
+    fn from(_error: AllocError) -> Refusal {
+        Refusal::NoMemory
     }
 }

@@ -17,7 +17,7 @@ use Rattle.std.specs.declared.result.Result.the-variants.{Ok, Err}
 use Rattle.refusal.specs.declared.refusal.Refusal.{Refusal}
 use Rattle.refusal.specs.declared.refusal.Refusal.the-variants.{LineFeed, Letter, FieldForm, FieldRange, TableBits}
 use Rattle.refusal.specs.declared.fault.Fault.{Fault}
-use Rattle.refusal.specs.Faults.{fault-at, in-column}
+use Rattle.refusal.specs.Faults.{fault-at}
 use Rattle.layout.specs.declared.shape.Shape.{Shape}
 use Rattle.layout.specs.Text.{blank, numeral, decoded, columns, field-value}
 use Rattle.circuit.specs.declared.gate.Gate.{Gate}
@@ -29,15 +29,6 @@ use Rattle.sheet_format.specs.Decoding.{letter, fields-of, filled, numbers, kin
 use Rattle.sheet_format.specs.FirstFault.{field-fault, fields-fault, row-fault, gate-fault, names-gate, unless, first, well-formed, in-range}
 use Rattle.sheet.specs.declared.rows.Fields.{Fields}
 use Rattle.sheet.specs.Parts.{field-option, Read}
-
--- what a reader of columns answered, before the column was added to its refusal
-pub in-column-ok : {X : Type 0} (c : ℕ) (r : Result X Refusal) (x : X) → in-column c r ≡ Ok x → r ≡ Ok x
-in-column-ok c (Ok y) x e = cc
-in-column-ok c (Err y) x e = let z : _≡_ {A = ℕ} 0 1 = cc in let no : ⊥ = omega arith in absurd no
-
-pub in-column-err : {X : Type 0} (c : ℕ) (r : Result X Refusal) (f : Fault) → in-column c r ≡ Err f → (y : Refusal) × (r ≡ Err y) × (f ≡ fault-at y c)
-in-column-err c (Ok y) f e = let z : _≡_ {A = ℕ} 0 1 = cc in let no : ⊥ = omega arith in absurd no
-in-column-err c (Err y) f e = (y, refl, cc)
 
 -- what the two tests of a field's columns are, by the answer
 abbrev held : Bool → Bool → ℕ → Result (Option ℕ) Refusal

@@ -12,16 +12,21 @@ use mir.Val.{boolByte}
 use lib.ListN.{length, getD, take, drop, set}
 use lib.Seq.{drop-drop}
 use Rattle.std.specs.Options.{valueOr, isSome}
-use Rattle.std.proofs.shelf.Lists.{length-set, length-drop, getD-set-same, getD-set-other, take-rest}
+use Rattle.std.proofs.shelf.Lists.{length-set, length-take, length-drop, getD-set-same, getD-set-other, take-rest}
 use Rattle.std.proofs.shelf.Tests.{cases-lt}
-use Rattle.std.proofs.shelf.Counted.{fill-by-all}
+use Rattle.std.proofs.shelf.Counted.{fill-by-all, map-counting-more}
 use Rattle.std.specs.declared.option.Option.{Option}
 use Rattle.std.specs.declared.option.Option.the-variants.{Some, None}
 use Rattle.refusal.specs.declared.fault.Fault.{Fault}
 use Rattle.layout.specs.declared.shape.Shape.{Shape}
 use Rattle.layout.specs.Text.{blank, decoded}
-use Rattle.sheet_format.specs.Decoding.{field, number, filled-below}
-use Rattle.sheet_format.specs.FirstFault.{or-else, first-below, field-fault, fields-fault}
+use Rattle.refusal.specs.Faults.{moved-to-row}
+use Rattle.circuit.specs.declared.gate.Gate.{Gate}
+use Rattle.circuit.specs.Gates.{own-rows, total-rows}
+use Rattle.circuit.proofs.Rows.{rows-push}
+use Rattle.sheet_format.specs.declared.role.Role.{Role}
+use Rattle.sheet_format.specs.Decoding.{field, number, filled-below, row-at, inputs-in, gate-in, gates-read}
+use Rattle.sheet_format.specs.FirstFault.{or-else, first-below, at-row, field-fault, fields-fault, gate-fault}
 use Rattle.sheet.proofs.Fields.{blank-is-0, at-most}
 use Rattle.sheet.specs.Parts.{field-option, Read}
 
@@ -137,3 +142,50 @@ six-read s text rest ns k j m e =
       filled-are = whole .filled-is;
       fit = λ i h. rw (whole .numbers-are i h) (at-most s i (filled-below i text) (field i text) (passed (field-look s text) 6 (whole .faultless) i h));
     })
+
+-- row i of a sheet, as the part that the loop hands on
+pub row-part : (t : List ℕ) (a e k : ℕ) → a ≡ 32 * k → e ≡ a + 32 → take (e - a) (drop a t) ≡ row-at t k
+row-part t a e k p q = let n : e - a ≡ 32 = omega arith in rw (n, p)
+
+pub row-length : (t : List ℕ) (a e : ℕ) → e ≡ a + 32 → e ≤ length t → length (take (e - a) (drop a t)) ≡ 32
+row-length t a e q h = omega (arith, length-take (e - a) (drop a t), length-drop a t)
+
+abbrev gate-look : Role → List ℕ → ℕ → Option Fault
+gate-look role t i = at-row (i + 2) (gate-fault role (inputs-in t + i + 1) (total-rows (gates-read t i)) (row-at t (1 + i)))
+
+-- the first i gates are read without a fault
+pub record Gathered (role : Role) (t : List ℕ) (gates : List Gate) (len cap used i : ℕ) : Type 0 where
+  pub gates-are : gates ≡ gates-read t i
+  pub faultless : first-below i (gate-look role t) ≡ None
+  pub used-is : used ≡ total-rows gates
+  pub few : used ≤ 64
+  pub long : len ≡ i
+  pub roomy : 200 ≤ cap
+
+gates-more : (t : List ℕ) (i : ℕ) → gates-read t (i + 1) ≡ gates-read t i ++ gate-in (row-at t (1 + i)) ∷ []
+unfolding gates-read
+gates-more t i = map-counting-more (λ k. gate-in (row-at t (1 + k))) 0 i i (omega arith)
+
+-- a gate more: `part` is its row and `own` its net
+module _ (role : Role) (t gates-part : List ℕ) (gates : List Gate) (len cap used i own : ℕ) (m : Gathered role t gates len cap used i)
+    (is-part : gates-part ≡ row-at t (1 + i)) (is-own : own ≡ inputs-in t + i + 1) where
+  look-is : (o : Option Fault) → gate-fault role own used gates-part ≡ o → gate-look role t i ≡ at-row (i + 2) o
+  look-is o e =
+      ap (at-row (i + 2))
+      (ap (λ x. gate-fault role x (total-rows (gates-read t i)) (row-at t (1 + i))) (sym is-own)
+      ∙ ap (λ x. gate-fault role own x (row-at t (1 + i))) (sym (m .used-is ∙ ap total-rows (m .gates-are)))
+      ∙ ap (gate-fault role own used) (sym is-part) ∙ e)
+
+  pub gate-more : (g : Gate) (r n l : ℕ) → gate-fault role own used gates-part ≡ None → g ≡ gate-in gates-part → used + own-rows g ≤ 64 → r ≡ own-rows g →
+      l ≡ len + 1 → n ≡ cap → Gathered role t (gates ++ g ∷ []) l n (used + r) (i + 1)
+  gate-more g r n l e is-g h is-r is-l is-n = record {
+    gates-are = ap (λ x. gates ++ x ∷ []) (is-g ∙ ap gate-in is-part) ∙ ap (λ x. x ++ gate-in (row-at t (1 + i)) ∷ []) (m .gates-are) ∙ sym (gates-more t i);
+    faultless = below-passed (gate-look role t) i (m .faultless) (look-is None e);
+    used-is = ap (λ x. used + x) is-r ∙ ap (λ x. x + own-rows g) (m .used-is) ∙ sym (rows-push gates g);
+    few = omega (arith, h);
+    long = omega (arith, m .long);
+    roomy = omega (arith, m .roomy);
+  }
+
+  pub gate-stopped : (n : ℕ) (f : Fault) → i < n → gate-fault role own used gates-part ≡ Some f → first-below n (gate-look role t) ≡ Some (moved-to-row (i + 2) f)
+  gate-stopped n f h e = found (gate-look role t) n i (moved-to-row (i + 2) f) h (m .faultless) (look-is (Some f) e)

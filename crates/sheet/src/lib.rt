@@ -1,3 +1,5 @@
 // Sheets: reading circuits and pairs from their bytes, with every fault exact, and writing them again.
 mod parts;
+pub mod room;
 mod rows;
+pub mod read;

@@ -7,6 +7,7 @@ ghost use Rattle.std.specs.Results.{Cases};
 ghost use Rattle.std.specs.declared.option.Option.the-variants.{Some, None};
 ghost use Rattle.refusal.specs.Faults.{fault-at};
 ghost use Rattle.refusal.specs.declared.refusal.Refusal.the-variants.{Letter};
+ghost use Rattle.circuit.specs.Gates.{own-rows};
 ghost use Rattle.circuit.specs.Kinds.{all-kinds, kind-among};
 ghost use Rattle.sheet_format.specs.Shapes.{header-shape, gate-shape, output-shape};
 ghost use Rattle.sheet_format.specs.Decoding.{number, fields-of, kind-named, gate-in, gate-from};
@@ -151,7 +152,7 @@ fn gate_of(kind: Kind, fields: &Fields) -> Gate
 /// The gate that drives net `own`, where the tables above have `before` rows.
 pub fn read_gate(row: &[u8], role: Role, own: u32, before: usize) -> Result<Gate, Fault>
     requires { ⌜ length (now row) ≡ 32 ⌝ ∗ ⌜ 1 ≤ own ⌝ ∗ ⌜ own ≤ 216 ⌝ ∗ ⌜ before ≤ 64 ⌝ }
-    ensures { λ r. ⌜ Cases r (λ g. (gate-fault role own before (now (row .entry)) ≡ None) × (g ≡ gate-in (now (row .entry)))) (λ f. gate-fault role own before (now (row .entry)) ≡ Some f) ⌝ }
+    ensures { λ r. ⌜ Cases r (λ g. (gate-fault role own before (now (row .entry)) ≡ None) × (g ≡ gate-in (now (row .entry))) × (before + own-rows g ≤ 64)) (λ f. gate-fault role own before (now (row .entry)) ≡ Some f) ⌝ }
 {
     let (letter, text) = split_row(row)?;
     let kind = read_kind(letter, role)?;

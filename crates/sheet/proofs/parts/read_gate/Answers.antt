@@ -61,4 +61,4 @@ returns c =
     let gate = gate-is (c .args .role) (c .args .own) (c .args .before) row _ (c .shape-of-gate .result) (c .in-Continue-kind .kind) _ (h .0) (h .1) (h .2) (k .0) (k .1)
       (c .shape-of-gate .ensures) (c .in-Continue-fields .fields) (c .gate-of-gate .result) (v .1) (c .gate-of-gate .ensures) in
     let rows = c .rows .ensures ∙ ap own-rows gate in
-    (few-enough (c .args .role) (c .args .own) (c .args .before) row none (omega arith), gate)
+    (few-enough (c .args .role) (c .args .own) (c .args .before) row none (omega arith), gate, omega arith)

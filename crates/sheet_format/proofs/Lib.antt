@@ -1,0 +1,10 @@
+pub mod SoundLooks
+pub mod SoundFields
+pub mod SoundRow
+pub mod SoundRows
+pub mod Sound
+pub mod CompleteFields
+pub mod CompleteGates
+pub mod CompleteRows
+pub mod Complete
+pub mod RoundTrips
