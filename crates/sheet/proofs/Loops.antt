@@ -25,8 +25,8 @@ use Rattle.circuit.specs.declared.gate.Gate.{Gate}
 use Rattle.circuit.specs.Gates.{own-rows, total-rows}
 use Rattle.circuit.proofs.Rows.{rows-push}
 use Rattle.sheet_format.specs.declared.role.Role.{Role}
-use Rattle.sheet_format.specs.Decoding.{field, number, filled-below, row-at, inputs-in, gate-in, gates-read}
-use Rattle.sheet_format.specs.FirstFault.{or-else, first-below, at-row, field-fault, fields-fault, gate-fault}
+use Rattle.sheet_format.specs.Decoding.{field, number, filled-below, fields-of, row-at, inputs-in, gates-in, gate-in, gates-read, outputs-read}
+use Rattle.sheet_format.specs.FirstFault.{or-else, first-below, at-row, field-fault, fields-fault, gate-fault, output-fault}
 use Rattle.sheet.proofs.Fields.{blank-is-0, at-most}
 use Rattle.sheet.specs.Parts.{field-option, Read}
 
@@ -176,12 +176,13 @@ module _ (role : Role) (t gates-part : List ℕ) (gates : List Gate) (len cap us
       ∙ ap (λ x. gate-fault role own x (row-at t (1 + i))) (sym (m .used-is ∙ ap total-rows (m .gates-are)))
       ∙ ap (gate-fault role own used) (sym is-part) ∙ e)
 
-  pub gate-more : (g : Gate) (r n l : ℕ) → gate-fault role own used gates-part ≡ None → g ≡ gate-in gates-part → used + own-rows g ≤ 64 → r ≡ own-rows g →
-      l ≡ len + 1 → n ≡ cap → Gathered role t (gates ++ g ∷ []) l n (used + r) (i + 1)
-  gate-more g r n l e is-g h is-r is-l is-n = record {
-    gates-are = ap (λ x. gates ++ x ∷ []) (is-g ∙ ap gate-in is-part) ∙ ap (λ x. x ++ gate-in (row-at t (1 + i)) ∷ []) (m .gates-are) ∙ sym (gates-more t i);
+  pub gate-more : (gs : List Gate) (g : Gate) (r n l : ℕ) → gate-fault role own used gates-part ≡ None → g ≡ gate-in gates-part → used + own-rows g ≤ 64 → r ≡ own-rows g →
+      gs ≡ gates ++ g ∷ [] → l ≡ len + 1 → n ≡ cap → Gathered role t gs l n (used + r) (i + 1)
+  gate-more gs g r n l e is-g h is-r is-gs is-l is-n = record {
+    gates-are =
+      is-gs ∙ ap (λ x. gates ++ x ∷ []) (is-g ∙ ap gate-in is-part) ∙ ap (λ x. x ++ gate-in (row-at t (1 + i)) ∷ []) (m .gates-are) ∙ sym (gates-more t i);
     faultless = below-passed (gate-look role t) i (m .faultless) (look-is None e);
-    used-is = ap (λ x. used + x) is-r ∙ ap (λ x. x + own-rows g) (m .used-is) ∙ sym (rows-push gates g);
+    used-is = ap (λ x. used + x) is-r ∙ ap (λ x. x + own-rows g) (m .used-is) ∙ sym (ap total-rows is-gs ∙ rows-push gates g);
     few = omega (arith, h);
     long = omega (arith, m .long);
     roomy = omega (arith, m .roomy);
@@ -189,3 +190,39 @@ module _ (role : Role) (t gates-part : List ℕ) (gates : List Gate) (len cap us
 
   pub gate-stopped : (n : ℕ) (f : Fault) → i < n → gate-fault role own used gates-part ≡ Some f → first-below n (gate-look role t) ≡ Some (moved-to-row (i + 2) f)
   gate-stopped n f h e = found (gate-look role t) n i (moved-to-row (i + 2) f) h (m .faultless) (look-is (Some f) e)
+
+abbrev output-look : List ℕ → ℕ → Option Fault
+output-look t j = at-row (gates-in t + j + 2) (output-fault (inputs-in t + gates-in t) (row-at t (1 + gates-in t + j)))
+
+-- the first j outputs, after g gates, are read without a fault
+pub record Collected (t : List ℕ) (g : ℕ) (nets : List ℕ) (len cap j : ℕ) : Type 0 where
+  pub nets-are : nets ≡ outputs-read t g j
+  pub faultless : first-below j (output-look t) ≡ None
+  pub long : len ≡ j
+  pub roomy : 16 ≤ cap
+
+outputs-more : (t : List ℕ) (g j : ℕ) → outputs-read t g (j + 1) ≡ outputs-read t g j ++ number 0 (fields-of (row-at t (1 + g + j))) ∷ []
+unfolding outputs-read
+outputs-more t g j = map-counting-more (λ k. number 0 (fields-of (row-at t (1 + g + k)))) 0 j j (omega arith)
+
+-- an output more: `part` is its row, of a circuit of n nets
+module _ (t part : List ℕ) (g n : ℕ) (nets : List ℕ) (len cap j : ℕ) (m : Collected t g nets len cap j)
+    (is-g : g ≡ gates-in t) (is-n : n ≡ inputs-in t + gates-in t) (is-part : part ≡ row-at t (1 + g + j)) where
+  output-look-is : (o : Option Fault) → output-fault n part ≡ o → output-look t j ≡ at-row (g + j + 2) o
+  output-look-is o e =
+      ap (λ x. at-row (x + j + 2) (output-fault (inputs-in t + gates-in t) (row-at t (1 + x + j)))) (sym is-g)
+      ∙ ap (at-row (g + j + 2)) (ap (λ x. output-fault x (row-at t (1 + g + j))) (sym is-n) ∙ ap (output-fault n) (sym is-part) ∙ e)
+
+  pub output-more : (ns : List ℕ) (net c l : ℕ) → output-fault n part ≡ None → net ≡ number 0 (fields-of part) → ns ≡ nets ++ net ∷ [] → l ≡ len + 1 → c ≡ cap →
+      Collected t g ns l c (j + 1)
+  output-more ns net c l e is-net is-ns is-l is-c = record {
+    nets-are =
+      is-ns ∙ ap (λ x. nets ++ x ∷ []) (is-net ∙ ap (λ r. number 0 (fields-of r)) is-part) ∙ ap (λ x. x ++ number 0 (fields-of (row-at t (1 + g + j))) ∷ []) (m .nets-are)
+      ∙ sym (outputs-more t g j);
+    faultless = below-passed (output-look t) j (m .faultless) (output-look-is None e);
+    long = omega (arith, m .long);
+    roomy = omega (arith, m .roomy);
+  }
+
+  pub output-stopped : (q : ℕ) (f : Fault) → j < q → output-fault n part ≡ Some f → first-below q (output-look t) ≡ Some (moved-to-row (g + j + 2) f)
+  output-stopped q f h e = found (output-look t) q j (moved-to-row (g + j + 2) f) h (m .faultless) (output-look-is (Some f) e)
