@@ -1,4 +1,5 @@
 // Sheets: reading circuits and pairs from their bytes, with every fault exact, and writing them again.
+pub mod length;
 mod parts;
 pub mod room;
 mod rows;

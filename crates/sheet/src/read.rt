@@ -13,14 +13,18 @@ ghost use Rattle.circuit.specs.View.{drawn};
 ghost use Rattle.sheet_format.specs.Rows.{size};
 ghost use Rattle.sheet_format.specs.Decoding.{row-at, gates-in, outputs-in, gates-read, outputs-read, sheet-in};
 ghost use Rattle.sheet_format.specs.FirstFault.{gates-fault, outputs-fault, rows-counted, sheet-fault};
+ghost use Rattle.sheet.specs.Answers.{SheetRead, PairRead};
 ghost use Rattle.sheet.specs.Parts.{Headed};
+use crate::length::sheet_length;
 use crate::parts::Header;
 use crate::parts::read_gate;
 use crate::parts::read_header;
 use crate::parts::read_output;
+use crate::room::PairRoom;
 use crate::room::Room;
 use circuit::circuit::Circuit;
 use circuit::gate::Gate;
+use circuit::pair::Pair;
 use refusal::fault::Fault;
 use refusal::fault::Placed;
 use refusal::fault::ResultPlaced;
@@ -100,5 +104,26 @@ fn read_part(bytes: &[u8], role: Role, room: Room) -> Result<Circuit, Fault>
         inputs: header.inputs,
         gates,
         outputs,
+    })
+}
+
+/// The circuit of a sheet that stands alone. Its faults are in sheet 0.
+pub fn read_sheet(room: Room, bytes: &[u8]) -> Result<Circuit, Fault>
+    ensures { λ r. ⌜ SheetRead (now (bytes .entry)) r ⌝ }
+{
+    read_part(bytes, Role::Alone, room)
+}
+
+/// The target and the specification of a pair: the second sheet starts right after the target's last row.
+pub fn read_pair(room: PairRoom, bytes: &[u8]) -> Result<Pair, Fault>
+    ensures { λ r. ⌜ PairRead (now (bytes .entry)) r ⌝ }
+{
+    let PairRoom { target, specification } = room;
+    let target = read_part(bytes, Role::Target, target).in_sheet(1)?;
+    let start = sheet_length(&target);
+    let specification = read_part(&bytes[start..], Role::Specification, specification).in_sheet(2)?;
+    Ok(Pair {
+        target,
+        specification,
     })
 }

@@ -31,3 +31,21 @@ impl Room {
         Ok(Room { gates, outputs })
     }
 }
+
+/// Memory for the two circuits of a pair.
+#[derive(Drop)]
+pub struct PairRoom {
+    pub target: Room,
+    pub specification: Room,
+}
+
+impl PairRoom {
+    /// Memory for a pair; refused only for want of memory.
+    pub fn new(heap: Global) -> Result<PairRoom, Refusal>
+        ensures { λ r. ⌜ refused r (λ e. e ≡ NoMemory) ⌝ }
+    {
+        let target = Room::new(heap)?;
+        let specification = Room::new(heap)?;
+        Ok(PairRoom { target, specification })
+    }
+}

@@ -5,14 +5,15 @@ use mathlib.Core.List.{List, [], _++_}
 use native.Mathlib.Omega.{arith}
 use lib.ListN.{length, drop}
 use Rattle.std.proofs.shelf.Lists.{append-nil, drop-at}
+use Rattle.std.specs.declared.option.Option.the-variants.{None}
 use Rattle.refusal.specs.Faults.{moved-to-sheet}
 use Rattle.circuit.specs.Gates.{Sheet, Lawful, Plain}
 use Rattle.sheet_format.specs.declared.role.Role.the-variants.{Alone, Target, Specification}
 use Rattle.sheet_format.specs.Rows.{rows, pair-rows, size}
 use Rattle.sheet_format.specs.Decoding.{sheet-in, gates-in, outputs-in}
-use Rattle.sheet_format.specs.FirstFault.{sheet-fault, after-target, at-sheet}
+use Rattle.sheet_format.specs.FirstFault.{sheet-fault, pair-fault, after-target, at-sheet}
 use Rattle.sheet_format.specs.Read.{Says, Reads}
-use Rattle.sheet_format.specs.Laws.{SheetLaws, PairOf, PairLaws}
+use Rattle.sheet_format.specs.Laws.{RowsOf, SheetLaws, PairOf, PairLaws}
 use Rattle.sheet_format.proofs.SoundLooks.{both-passed, moved-passed}
 use Rattle.sheet_format.proofs.CompleteFields.{or-none}
 use Rattle.sheet_format.proofs.CompleteRows.{length-rows}
@@ -23,14 +24,15 @@ use Rattle.sheet_format.proofs.Complete.{complete}
 alone-reads : (s : Sheet) → Lawful s → Reads Alone s (rows s)
 alone-reads s l = subst (Reads Alone s) (append-nil (rows s)) (complete Alone s [] l tt refl)
 
-pub sheet-laws : SheetLaws
-sheet-laws = record {
-  read-back = λ t e.
+-- bytes without a fault are the rows of the circuit that they say, and of no other
+pub one-circuit : (t : List ℕ) → sheet-fault Alone t ≡ None → RowsOf (sheet-in t) t
+one-circuit t e =
     let x = sound Alone t e in
     let w : t ≡ rows (sheet-in t) = x .written ∙ ap (λ r. rows (sheet-in t) ++ r) (x .follows) ∙ append-nil (rows (sheet-in t)) in
-    (sheet-in t, record { lawful = x .lawful; written = w; alone = λ s′ l p. sym (alone-reads s′ l .same) ∙ ap sheet-in (sym p) });
-  written-well = λ s l. alone-reads s l .faultless;
-}
+    record { lawful = x .lawful; written = w; alone = λ s′ l p. sym (alone-reads s′ l .same) ∙ ap sheet-in (sym p) }
+
+pub sheet-laws : SheetLaws
+sheet-laws = record { read-back = λ t e. (sheet-in t, one-circuit t e); written-well = λ s l. alone-reads s l .faultless }
 
 rows-of-32 : (n k : ℕ) → n ≡ 32 * k → n % 32 ≡ 0
 rows-of-32 n k e = omega arith
@@ -68,13 +70,16 @@ both-say t a b = record {
     sym (alone-reads y ly .same) ∙ ap sheet-in (sym (rest-is x y lx ly)) ∙ ap (λ z. sheet-in (after-target z)) (sym e));
 }
 
+-- the same of a pair
+pub one-pair : (t : List ℕ) → pair-fault t ≡ None → PairOf (sheet-in t) (sheet-in (after-target t)) t
+one-pair t e =
+    let p = both-passed (at-sheet 1 (sheet-fault Target t)) (at-sheet 2 (sheet-fault Specification (after-target t))) e in
+    both-say t (sound Target t (moved-passed (moved-to-sheet 1) (sheet-fault Target t) (p .0)))
+    (sound Specification (after-target t) (moved-passed (moved-to-sheet 2) (sheet-fault Specification (after-target t)) (p .1)))
+
 pub pair-laws : PairLaws
 pair-laws = record {
-  read-back = λ t e.
-    let p = both-passed (at-sheet 1 (sheet-fault Target t)) (at-sheet 2 (sheet-fault Specification (after-target t))) e in
-    (sheet-in t, sheet-in (after-target t),
-    both-say t (sound Target t (moved-passed (moved-to-sheet 1) (sheet-fault Target t) (p .0)))
-    (sound Specification (after-target t) (moved-passed (moved-to-sheet 2) (sheet-fault Specification (after-target t)) (p .1))));
+  read-back = λ t e. (sheet-in t, sheet-in (after-target t), one-pair t e);
   written-well = λ x y lx ly p.
     or-none (ap (at-sheet 1) (target-reads x y lx ly .faultless)) (ap (at-sheet 2) (specification-reads x y lx ly p .faultless));
 }
