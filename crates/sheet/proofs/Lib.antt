@@ -2,3 +2,4 @@ pub mod Fields
 pub mod Texts
 pub mod Loops
 pub mod Sheets
+pub mod Laid

@@ -4,3 +4,4 @@ mod parts;
 pub mod room;
 mod rows;
 pub mod read;
+pub mod write;
