@@ -2,7 +2,10 @@
 use mathlib.Core.List.{List, [], _∷_}
 use mathlib.Core.Path.{_≡_}
 use Prim.Native.Nat.{ℕ, _+_, _^_, _≤_}
+use lib.Dec.{eqb}
 use lib.ListN.{length, getD, take}
+use Rattle.std.specs.shelf.Lists.{countBy}
+use Rattle.circuit.specs.Kinds.{letterOf}
 use Rattle.circuit.specs.declared.gate.Inputs.{Inputs}
 use Rattle.circuit.specs.declared.gate.Inputs.the-variants.{One, Two, Three, Four}
 use Rattle.circuit.specs.declared.gate.Unary.the-variants.{Buffer}
@@ -43,6 +46,10 @@ total-rows (g ∷ gs) = own-rows g + total-rows gs
 -- the setting row that is the first of gate i, counted from 0: the rows of the tables before it come first
 abbrev pub first-row : List Gate → ℕ → ℕ
 first-row gates i = total-rows (take i gates)
+
+-- how many of the gates are of that kind
+abbrev pub count-kind : Kind → List Gate → ℕ
+count-kind k gates = countBy (λ g. eqb (letterOf (kind-of g)) (letterOf k)) gates
 
 -- one of the nets 1 to n
 abbrev pub Net : ℕ → ℕ → Type 0

@@ -2,7 +2,7 @@
 ghost use mathlib.Core.Path.{_≡_};
 ghost use Prim.Native.Nat.{_≤_};
 ghost use lib.ListN.{length};
-ghost use Rattle.circuit.specs.Kinds.{letterOf, fewest-inputs, most-inputs};
+ghost use Rattle.circuit.specs.Kinds.{nameOf, letterOf, fewest-inputs, most-inputs};
 ghost use Rattle.circuit.specs.Gates.{kind-of, own-rows};
 
 /// A gate of one input.
@@ -49,6 +49,36 @@ pub enum Gate {
 }
 
 impl Kind {
+    /// Every kind.
+    pub const ALL: [Kind; 9] = [
+        Kind::Unary(Unary::Buffer),
+        Kind::Unary(Unary::Inverter),
+        Kind::Binary(Binary::And),
+        Kind::Binary(Binary::Or),
+        Kind::Binary(Binary::Xor),
+        Kind::Binary(Binary::Nand),
+        Kind::Binary(Binary::Nor),
+        Kind::Binary(Binary::Xnor),
+        Kind::Table,
+    ];
+
+    /// The kind's name.
+    pub fn name(&self) -> &'static str
+        ensures { λ r. ⌜ now r ≡ nameOf (now (self .entry)) ⌝ }
+    {
+        match self {
+            Kind::Unary(Unary::Buffer) => "buffer",
+            Kind::Unary(Unary::Inverter) => "inverter",
+            Kind::Binary(Binary::And) => "and",
+            Kind::Binary(Binary::Or) => "or",
+            Kind::Binary(Binary::Xor) => "xor",
+            Kind::Binary(Binary::Nand) => "nand",
+            Kind::Binary(Binary::Nor) => "nor",
+            Kind::Binary(Binary::Xnor) => "xnor",
+            Kind::Table => "table",
+        }
+    }
+
     /// The letter that stands for the kind in a sheet.
     pub fn letter(&self) -> u8
         ensures { λ r. ⌜ r ≡ letterOf (now (self .entry)) ⌝ }
