@@ -4,3 +4,4 @@ pub mod Decoding
 pub mod FirstFault
 pub mod Read
 pub mod Laws
+pub mod Samples
