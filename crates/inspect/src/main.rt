@@ -39,7 +39,7 @@ fn print_kinds(rt: &LibcRuntime, circuit: &Circuit) -> io::Result<()> {
         let count = circuit.gates_of(kind);
         if count > 0 {
             let name = kind.name();
-            println!(rt, "  {count} {name}")?;
+            println!(rt, "  {name}: {count}")?;
         }
     }
     Ok(())
