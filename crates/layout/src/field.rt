@@ -6,6 +6,9 @@ ghost use Rattle.std.specs.declared.option.Option.the-variants.{Some, None};
 ghost use Rattle.layout.specs.Text.{column, columns, decoded, field-value};
 use refusal::refusal::Refusal;
 
+/// The five columns of a field.
+pub type Columns = [u8; 5];
+
 /// A column before the last: a digit, or a space where the number is smaller than the column's weight.
 fn lead_column(n: u32, weight: u32) -> u8
     requires { ⌜ 0 < weight ⌝ }
@@ -15,14 +18,14 @@ fn lead_column(n: u32, weight: u32) -> u8
 }
 
 /// The five columns of a number; of one that has more digits, the last five digits.
-fn number_columns(n: u32) -> [u8; 5]
+fn number_columns(n: u32) -> Columns
     ensures { λ r. ⌜ r ≡ columns (Some n) ⌝ }
 {
     [lead_column(n, 10000), lead_column(n, 1000), lead_column(n, 100), lead_column(n, 10), b'0' + (n % 10) as u8]
 }
 
 /// The five columns of a field.
-pub fn field_columns(value: Option<u32>) -> [u8; 5]
+pub fn field_columns(value: Option<u32>) -> Columns
     ensures { λ r. ⌜ r ≡ columns value ⌝ }
 {
     match value {
@@ -38,21 +41,21 @@ fn digit(column: u8) -> u32
 }
 
 /// The sum of the columns by weight, a space as 0.
-fn weighed(columns: [u8; 5]) -> u32
+fn weighed(columns: Columns) -> u32
     ensures { λ r. ⌜ r ≡ decoded columns ⌝ }
 {
     let [a, b, c, d, e] = columns;
     digit(a) * 10000 + digit(b) * 1000 + digit(c) * 100 + digit(d) * 10 + digit(e)
 }
 
-fn same(a: [u8; 5], b: [u8; 5]) -> bool
+fn same(a: Columns, b: Columns) -> bool
     ensures { λ r. ⌜ r ≡ sameBytes a b ⌝ }
 {
     a == b
 }
 
 /// What five columns hold: nothing, or a number. They are a number's exactly where writing it gives them again.
-pub fn read_columns(text: [u8; 5]) -> Result<Option<u32>, Refusal>
+pub fn read_columns(text: Columns) -> Result<Option<u32>, Refusal>
     ensures { λ r. ⌜ r ≡ field-value text ⌝ }
 {
     if same(text, *b"     ") {

@@ -2,17 +2,21 @@
 ghost use mathlib.Core.Path.{_≡_};
 ghost use Rattle.std.specs.Finite.{nth};
 ghost use Rattle.layout.specs.Text.{columns, row-text};
+use crate::field::Columns;
 use crate::field::field_columns;
 
+/// A row's 32 bytes.
+pub type Row = [u8; 32];
+
 /// The columns of the field that holds number j, counted from 0; blank where there is none.
-fn columns_at(numbers: &[u32], j: usize) -> [u8; 5]
+fn columns_at(numbers: &[u32], j: usize) -> Columns
     ensures { λ r. ⌜ r ≡ columns (nth (now (numbers .entry)) j) ⌝ }
 {
     if j < numbers.len() { field_columns(Some(numbers[j])) } else { field_columns(None) }
 }
 
 /// The row of a letter and numbers, the first six of which stand in the fields.
-pub fn row_text(letter: u8, numbers: &[u32]) -> [u8; 32]
+pub fn row_text(letter: u8, numbers: &[u32]) -> Row
     ensures { λ r. ⌜ r ≡ row-text letter (now (numbers .entry)) ⌝ }
 {
     let [a1, a2, a3, a4, a5] = columns_at(numbers, 0);

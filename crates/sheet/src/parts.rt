@@ -108,7 +108,7 @@ fn read_kind(letter: u8, role: Role) -> Result<Kind, Fault>
 }
 
 /// The header of a sheet.
-pub fn read_header(row: &[u8]) -> Result<Header, Fault>
+pub(crate) fn read_header(row: &[u8]) -> Result<Header, Fault>
     requires { ⌜ length (now row) ≡ 32 ⌝ }
     ensures { λ r. ⌜ Cases r (λ h. (header-fault (now (row .entry)) ≡ None) × Headed (now (row .entry)) h) (λ f. header-fault (now (row .entry)) ≡ Some f) ⌝ }
 {
@@ -122,7 +122,7 @@ pub fn read_header(row: &[u8]) -> Result<Header, Fault>
 }
 
 /// The net of an output, one of the first `nets`.
-pub fn read_output(row: &[u8], nets: u32) -> Result<u8, Fault>
+pub(crate) fn read_output(row: &[u8], nets: u32) -> Result<u8, Fault>
     requires { ⌜ length (now row) ≡ 32 ⌝ ∗ ⌜ nets ≤ 216 ⌝ }
     ensures { λ r. ⌜ Cases r (λ net. (output-fault nets (now (row .entry)) ≡ None) × (net ≡ number 0 (fields-of (now (row .entry))))) (λ f. output-fault nets (now (row .entry)) ≡ Some f) ⌝ }
 {
@@ -150,7 +150,7 @@ fn gate_of(kind: Kind, fields: &Fields) -> Gate
 }
 
 /// The gate that drives net `own`, where the tables above have `before` rows.
-pub fn read_gate(row: &[u8], role: Role, own: u32, before: usize) -> Result<Gate, Fault>
+pub(crate) fn read_gate(row: &[u8], role: Role, own: u32, before: usize) -> Result<Gate, Fault>
     requires { ⌜ length (now row) ≡ 32 ⌝ ∗ ⌜ 1 ≤ own ⌝ ∗ ⌜ own ≤ 216 ⌝ ∗ ⌜ before ≤ 64 ⌝ }
     ensures { λ r. ⌜ Cases r (λ g. (gate-fault role own before (now (row .entry)) ≡ None) × (g ≡ gate-in (now (row .entry))) × (before + own-rows g ≤ 64)) (λ f. gate-fault role own before (now (row .entry)) ≡ Some f) ⌝ }
 {

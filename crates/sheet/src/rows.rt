@@ -11,6 +11,7 @@ ghost use Rattle.refusal.specs.declared.refusal.Refusal.the-variants.{LineFeed}
 ghost use Rattle.sheet_format.specs.Decoding.{letter, fields-of};
 ghost use Rattle.sheet_format.specs.FirstFault.{field-fault, fields-fault, row-fault};
 ghost use Rattle.sheet.specs.Parts.{field-option, Read};
+use layout::field::Columns;
 use layout::field::read_columns;
 use layout::shape::Shape;
 use refusal::fault::Fault;
@@ -18,7 +19,7 @@ use refusal::fault::in_column;
 use refusal::refusal::Refusal;
 
 /// The letter and the thirty columns of fields of a row that ends in a line feed.
-pub fn split_row(row: &[u8]) -> Result<(u8, &[u8]), Fault>
+pub(crate) fn split_row(row: &[u8]) -> Result<(u8, &[u8]), Fault>
     requires { ⌜ length (now row) ≡ 32 ⌝ }
     ensures { λ r. ⌜ Cases r (λ p. (getD (now (row .entry)) 31 0 ≡ 10) × (p .0 ≡ letter (now (row .entry))) × (now (p .1) ≡ fields-of (now (row .entry)))) (λ f. (f ≡ fault-at LineFeed 32) × (getD (now (row .entry)) 31 0 ≡ 10 → ⊥)) ⌝ }
 {
@@ -31,7 +32,7 @@ pub fn split_row(row: &[u8]) -> Result<(u8, &[u8]), Fault>
 }
 
 /// Field j of a row, where `before` of the fields before it are filled: its form, then its range.
-fn read_field(text: [u8; 5], j: usize, before: usize, shape: &Shape) -> Result<Option<u32>, Fault>
+fn read_field(text: Columns, j: usize, before: usize, shape: &Shape) -> Result<Option<u32>, Fault>
     requires { ⌜ j < 6 ⌝ }
     ensures { λ r. ⌜ Cases r (λ v. (field-fault (now (shape .entry)) j before text ≡ None) × (v ≡ field-option text)) (λ f. field-fault (now (shape .entry)) j before text ≡ Some f) ⌝ }
 {
@@ -63,7 +64,7 @@ pub struct Fields {
 }
 
 /// The six fields of a row, each taken apart in turn from the left.
-pub fn read_fields(text: &[u8], shape: &Shape) -> Result<Fields, Fault>
+pub(crate) fn read_fields(text: &[u8], shape: &Shape) -> Result<Fields, Fault>
     requires { ⌜ length (now text) ≡ 30 ⌝ }
     ensures { λ r. ⌜ Cases r (λ v. (fields-fault (now (shape .entry)) (now (text .entry)) ≡ None) × Read (now (shape .entry)) (now (text .entry)) v) (λ f. fields-fault (now (shape .entry)) (now (text .entry)) ≡ Some f) ⌝ }
 {
@@ -81,7 +82,7 @@ pub fn read_fields(text: &[u8], shape: &Shape) -> Result<Fields, Fault>
 }
 
 /// The fields of a row that begins with that letter.
-pub fn read_lettered(row: &[u8], wanted: u8, shape: &Shape) -> Result<Fields, Fault>
+pub(crate) fn read_lettered(row: &[u8], wanted: u8, shape: &Shape) -> Result<Fields, Fault>
     requires { ⌜ length (now row) ≡ 32 ⌝ }
     ensures { λ r. ⌜ Cases r (λ v. (row-fault (eqb (letter (now (row .entry))) wanted) (now (shape .entry)) (now (row .entry)) ≡ None) × Read (now (shape .entry)) (fields-of (now (row .entry))) v) (λ f. row-fault (eqb (letter (now (row .entry))) wanted) (now (shape .entry)) (now (row .entry)) ≡ Some f) ⌝ }
 {

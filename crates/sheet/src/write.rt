@@ -13,11 +13,12 @@ use circuit::circuit::Circuit;
 use circuit::gate::Gate;
 use circuit::gate::Inputs;
 use circuit::pair::Pair;
+use layout::row::Row;
 use layout::row::row_text;
 use refusal::refusal::Refusal;
 
 /// The row of a gate that drives net `own`.
-fn gate_row(own: u32, gate: Gate) -> [u8; 32]
+fn gate_row(own: u32, gate: Gate) -> Row
     ensures { λ r. ⌜ r ≡ gate-text own gate ⌝ }
 {
     let letter = gate.kind().letter();
@@ -32,7 +33,7 @@ fn gate_row(own: u32, gate: Gate) -> [u8; 32]
 }
 
 /// Puts a row at that place.
-fn put_row(into: &mut [u8], at: usize, row: [u8; 32])
+fn put_row(into: &mut [u8], at: usize, row: Row)
     requires { ⌜ at + 32 ≤ length (now into) ⌝ }
     ensures { λ _. ⌜ now (into .exit) ≡ laid (now (into .entry)) at row ⌝ }
 {

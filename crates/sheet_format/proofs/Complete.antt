@@ -26,7 +26,7 @@ use Rattle.sheet_format.specs.Rows.{rows, size, header-text, gate-text, output
 use Rattle.sheet_format.specs.Shapes.{header-shape}
 use Rattle.sheet_format.specs.Decoding.{row-at, fields-of, number, gate-in, inputs-in, gates-in, outputs-in, gates-read, outputs-read, sheet-in}
 use Rattle.sheet_format.specs.FirstFault.{sheet-fault, header-fault, gates-fault, outputs-fault, gate-fault, output-fault, whole-rows, rows-counted, may-stand, unless, at-row}
-use Rattle.sheet_format.specs.Read.{Suits, MayFollow, Complete}
+use Rattle.sheet_format.proofs.Read.{Suits, MayFollow, Complete}
 use Rattle.sheet_format.proofs.CompleteFields.{Suiting, row-holds, number-holds, row-none, or-none, first-below-none}
 use Rattle.sheet_format.proofs.CompleteGates.{gate-same, gate-none, output-same, output-none}
 use Rattle.sheet_format.proofs.CompleteRows as at

@@ -1,3 +1,4 @@
+pub mod Read
 pub mod SoundLooks
 pub mod SoundFields
 pub mod SoundRow

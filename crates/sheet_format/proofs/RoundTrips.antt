@@ -12,7 +12,7 @@ use Rattle.sheet_format.specs.declared.role.Role.the-variants.{Alone, Target, 
 use Rattle.sheet_format.specs.Rows.{rows, pair-rows, size}
 use Rattle.sheet_format.specs.Decoding.{sheet-in, gates-in, outputs-in}
 use Rattle.sheet_format.specs.FirstFault.{sheet-fault, pair-fault, after-target, at-sheet}
-use Rattle.sheet_format.specs.Read.{Says, Reads}
+use Rattle.sheet_format.proofs.Read.{Says, Reads}
 use Rattle.sheet_format.specs.Laws.{RowsOf, SheetLaws, PairOf, PairLaws}
 use Rattle.sheet_format.proofs.SoundLooks.{both-passed, moved-passed}
 use Rattle.sheet_format.proofs.CompleteFields.{or-none}

@@ -29,7 +29,7 @@ use Rattle.sheet_format.specs.Rows.{rows, size, header-text, gate-text, gate-t
 use Rattle.sheet_format.specs.Decoding.{row-at, fields-of, number, gate-in, inputs-in, gates-in, outputs-in, gates-read, outputs-read}
 use Rattle.sheet_format.specs.FirstFault.{unless, at-row, whole-rows, rows-counted, sheet-fault}
 use Rattle.sheet_format.specs.FirstFault.{header-fault, gate-fault, output-fault, gates-fault, outputs-fault}
-use Rattle.sheet_format.specs.Read.{MayFollow, Suits, Sound}
+use Rattle.sheet_format.proofs.Read.{MayFollow, Suits, Sound}
 use Rattle.sheet_format.proofs.SoundLooks.{all-passed, test-passed, moved-passed, each-passed}
 use Rattle.sheet_format.proofs.SoundRow.{piece, joined}
 use Rattle.sheet_format.proofs.SoundRows.{header-passed, GateHolds, gate-passed, OutputHolds, output-passed}

@@ -2,6 +2,5 @@ pub mod Rows
 pub mod Shapes
 pub mod Decoding
 pub mod FirstFault
-pub mod Read
 pub mod Laws
 pub mod Samples
