@@ -1,10 +1,10 @@
 use Prim.Native.Nat.{_+_, _*_}
 use mathlib.Core.Path.{_≡_, refl, ap, sym, _∙_}
 use native.Mathlib.Omega.{arith}
-use Rattle.std.proofs.shelf.Results.{err-from-errBy, cases-at-ok, cases-at-err}
+use Rattle.std.proofs.shelf.Results.{err-from-errBy}
 use Rattle.std.specs.declared.option.Option.the-variants.{Some}
 use Rattle.refusal.specs.Faults.{moved-to-row}
-use Rattle.refusal.proofs.Mapped.{was-ok, was-err}
+use Rattle.refusal.proofs.Mapped.{placed-ok, placed-err}
 use Rattle.circuit.specs.Gates.{total-rows}
 use Rattle.sheet_format.specs.Decoding.{gates-read}
 use Rattle.sheet.proofs.Loops.{Gathered, row-part, gate-more, gate-stopped}
@@ -26,17 +26,15 @@ returns-in-Break-gate c =
     let p = err-from-errBy (c .from-residual .result) (c .from-residual .ensures .1) in
     let t = c .args .bytes .now in
     let i = c .loop-i .i in
-    let q = was-err (moved-to-row (i + 2)) (c .read-gate .result) _ (sym (c .in-row .ensures) ∙ c .in-Break-gate .was tt) in
-    let e = cases-at-err _ _ (q .0) (q .1) (c .read-gate .ensures) in
+    let q = placed-err (moved-to-row (i + 2)) _ _ _ _ _ (c .in-row .ensures) (c .in-Break-gate .was tt) (c .read-gate .ensures) in
     rw (p .1, p .2)
     (gate-stopped (c .args .role) t _ _ _ _ (c .loop-i .used) i _ (c .loop-i .inv) (row-part t (32 * (i + 1)) (32 * (i + 2)) (1 + i) (omega arith) (omega arith)) (ap (λ x. x + i + 1) (c .from .ensures ∙ c .pre .headed .inputs-are))
-    (c .args .header .gates) (q .0) (c .loop-i-test .taken) e ∙ ap Some (sym (q .2)))
+    (c .args .header .gates) (q .0) (c .loop-i-test .taken) (q .1) ∙ ap Some (sym (q .2)))
 
 pub loop-i-again : need.loop-i-again
 loop-i-again c =
     let t = c .args .bytes .now in
     let i = c .loop-i .i in
-    let q = was-ok (moved-to-row (i + 2)) (c .read-gate .result) _ (sym (c .in-row .ensures) ∙ c .in-Continue-gate .was tt) in
-    let e = cases-at-ok _ _ (c .in-Continue-gate .gate) q (c .read-gate .ensures) in
+    let e = placed-ok (moved-to-row (i + 2)) _ _ _ _ _ (c .in-row .ensures) (c .in-Continue-gate .was tt) (c .read-gate .ensures) in
     gate-more (c .args .role) t _ _ _ _ (c .loop-i .used) i _ (c .loop-i .inv) (row-part t (32 * (i + 1)) (32 * (i + 2)) (1 + i) (omega arith) (omega arith)) (ap (λ x. x + i + 1) (c .from .ensures ∙ c .pre .headed .inputs-are))
     _ (c .in-Continue-gate .gate) _ _ _ (e .0) (e .1) (e .2) (c .rows-used .ensures) (c .push-reserved .ensures .items) (c .push-reserved .ensures .len) (c .push-reserved .ensures .capacity)

@@ -1,10 +1,10 @@
 use Prim.Native.Nat.{_+_, _*_}
 use mathlib.Core.Path.{_≡_, refl, ap, sym, _∙_}
 use native.Mathlib.Omega.{arith}
-use Rattle.std.proofs.shelf.Results.{err-from-errBy, cases-at-ok, cases-at-err}
+use Rattle.std.proofs.shelf.Results.{err-from-errBy}
 use Rattle.std.specs.declared.option.Option.the-variants.{Some}
 use Rattle.refusal.specs.Faults.{moved-to-row}
-use Rattle.refusal.proofs.Mapped.{was-ok, was-err}
+use Rattle.refusal.proofs.Mapped.{placed-ok, placed-err}
 use Rattle.sheet_format.specs.Decoding.{outputs-read, inputs-in, gates-in}
 use Rattle.sheet.proofs.Loops.{Collected, row-part, output-more, output-stopped}
 use Rattle.sheet.proofs.read.read_outputs.Needs as need
@@ -20,11 +20,10 @@ returns-in-Break-net c =
     let g = c .args .header .gates in
     let k = g + c .loop-j .j in
     let h = c .pre .headed in
-    let q = was-err (moved-to-row (k + 2)) (c .read-output .result) _ (sym (c .in-row .ensures) ∙ c .in-Break-net .was tt) in
-    let e = cases-at-err _ _ (q .0) (q .1) (c .read-output .ensures) in
+    let q = placed-err (moved-to-row (k + 2)) _ _ _ _ _ (c .in-row .ensures) (c .in-Break-net .was tt) (c .read-output .ensures) in
     rw (p .1, p .2)
     (output-stopped t _ g _ _ _ _ (c .loop-j .j) (c .loop-j .inv) (h .gates-are) (ap (λ x. x + g) (c .from .ensures ∙ h .inputs-are) ∙ ap (λ x. inputs-in t + x) (h .gates-are))
-    (row-part t (32 * (k + 1)) (32 * (k + 2)) (1 + g + c .loop-j .j) (omega arith) (omega arith)) (c .args .header .outputs) (q .0) (c .loop-j-test .taken) e ∙ ap Some (sym (q .2)))
+    (row-part t (32 * (k + 1)) (32 * (k + 2)) (1 + g + c .loop-j .j) (omega arith) (omega arith)) (c .args .header .outputs) (q .0) (c .loop-j-test .taken) (q .1) ∙ ap Some (sym (q .2)))
 
 pub loop-j-again : need.loop-j-again
 loop-j-again c =
@@ -32,8 +31,7 @@ loop-j-again c =
     let g = c .args .header .gates in
     let k = g + c .loop-j .j in
     let h = c .pre .headed in
-    let q = was-ok (moved-to-row (k + 2)) (c .read-output .result) _ (sym (c .in-row .ensures) ∙ c .in-Continue-net .was tt) in
-    let e = cases-at-ok _ _ (c .in-Continue-net .net) q (c .read-output .ensures) in
+    let e = placed-ok (moved-to-row (k + 2)) _ _ _ _ _ (c .in-row .ensures) (c .in-Continue-net .was tt) (c .read-output .ensures) in
     output-more t _ g _ _ _ _ (c .loop-j .j) (c .loop-j .inv) (h .gates-are) (ap (λ x. x + g) (c .from .ensures ∙ h .inputs-are) ∙ ap (λ x. inputs-in t + x) (h .gates-are))
     (row-part t (32 * (k + 1)) (32 * (k + 2)) (1 + g + c .loop-j .j) (omega arith) (omega arith)) _ (c .in-Continue-net .net) _ _ (e .0) (e .1)
     (c .push-reserved .ensures .items) (c .push-reserved .ensures .len) (c .push-reserved .ensures .capacity)

@@ -1,13 +1,9 @@
 -- Each way out is the sheet's first fault at the look that the reader came to; the last gives the circuit.
-use mathlib.Core.Path.{_≡_, ap, sym, _∙_}
-use Rattle.std.proofs.shelf.Results.{err-from-errBy, cases-at-ok, cases-at-err}
-use Rattle.std.specs.declared.option.Option.the-variants.{Some, None}
-use Rattle.std.specs.Of.Vec.{vec-items}
+use mathlib.Core.Path.{ap, sym, _∙_}
+use Rattle.std.proofs.shelf.Results.{err-from-errBy}
+use Rattle.std.specs.declared.option.Option.the-variants.{Some}
 use Rattle.refusal.specs.Faults.{moved-to-row}
-use Rattle.refusal.proofs.Mapped.{was-ok, was-err}
-use Rattle.sheet_format.specs.Decoding.{row-at}
-use Rattle.sheet_format.specs.FirstFault.{header-fault, sheet-fault}
-use Rattle.sheet.specs.Parts.{Headed}
+use Rattle.refusal.proofs.Mapped.{placed-ok, placed-err}
 use Rattle.sheet.proofs.Sheets.{no-length, no-header, no-count, no-gates, no-outputs, no-fault, sheet-is, lawful-is}
 use Rattle.sheet.proofs.read.read_part.Needs as need
 
@@ -20,54 +16,45 @@ returns-in-Break-check-length c =
 pub returns-in-Break-header : need.returns-in-Break-header
 returns-in-Break-header c =
     let p = err-from-errBy (c .from-residual-in-Break-header .result) (c .from-residual-in-Break-header .ensures .1) in
-    let q = was-err (moved-to-row 1) (c .read-header .result) _ (sym (c .in-row .ensures) ∙ c .in-Break-header .was tt) in
-    let e = cases-at-err _ _ (q .0) (q .1) (c .read-header .ensures) in
-    rw (p .1, p .2) (no-header (c .args .role) (c .args .bytes .now) (c .in-Continue-check-length .ensures tt) (q .0) e ∙ ap Some (sym (q .2)))
+    let q = placed-err (moved-to-row 1) _ _ _ _ _ (c .in-row .ensures) (c .in-Break-header .was tt) (c .read-header .ensures) in
+    rw (p .1, p .2) (no-header (c .args .role) (c .args .bytes .now) (c .in-Continue-check-length .ensures tt) (q .0) (q .1) ∙ ap Some (sym (q .2)))
 
 pub returns-in-Break-in-row : need.returns-in-Break-in-row
 returns-in-Break-in-row c =
     let p = err-from-errBy (c .from-residual-in-Break-in-row .result) (c .from-residual-in-Break-in-row .ensures .1) in
-    let a = cases-at-ok _ _ (c .in-Continue-header .header) (was-ok (moved-to-row 1) (c .read-header .result) _ (sym (c .in-row .ensures) ∙ c .in-Continue-header .was tt)) (c .read-header .ensures) in
-    let q = was-err (moved-to-row 1) (c .check-count .result) _ (sym (c .in-row-2 .ensures) ∙ c .in-Break-in-row .was tt) in
-    let e = cases-at-err _ _ (q .0) (q .1) (c .check-count .ensures) in
+    let a = placed-ok (moved-to-row 1) _ _ _ _ _ (c .in-row .ensures) (c .in-Continue-header .was tt) (c .read-header .ensures) in
+    let q = placed-err (moved-to-row 1) _ _ _ _ _ (c .in-row-2 .ensures) (c .in-Break-in-row .was tt) (c .check-count .ensures) in
     rw (p .1, p .2)
-    (no-count (c .args .role) (c .args .bytes .now) (c .in-Continue-check-length .ensures tt) (c .in-Continue-header .header) (a .0) (a .1) (e .0)
-    ∙ ap (λ f. Some (moved-to-row 1 f)) (sym (e .1)) ∙ ap Some (sym (q .2)))
+    (no-count (c .args .role) (c .args .bytes .now) (c .in-Continue-check-length .ensures tt) (c .in-Continue-header .header) (a .0) (a .1) (q .1 .0)
+    ∙ ap (λ f. Some (moved-to-row 1 f)) (sym (q .1 .1)) ∙ ap Some (sym (q .2)))
 
 pub returns-in-Break-gates : need.returns-in-Break-gates
 returns-in-Break-gates c =
     let p = err-from-errBy (c .from-residual-in-Break-gates .result) (c .from-residual-in-Break-gates .ensures .1) in
-    let a = cases-at-ok _ _ (c .in-Continue-header .header) (was-ok (moved-to-row 1) (c .read-header .result) _ (sym (c .in-row .ensures) ∙ c .in-Continue-header .was tt)) (c .read-header .ensures) in
-    let n = cases-at-ok _ _ _ (was-ok (moved-to-row 1) (c .check-count .result) _ (sym (c .in-row-2 .ensures) ∙ c .in-Continue-in-row .was tt)) (c .check-count .ensures) in
+    let a = placed-ok (moved-to-row 1) _ _ _ _ _ (c .in-row .ensures) (c .in-Continue-header .was tt) (c .read-header .ensures) in
     rw (p .1, p .2)
-    (no-gates (c .args .role) (c .args .bytes .now) (c .in-Continue-check-length .ensures tt) (c .in-Continue-header .header) (a .0) (a .1) n _ (c .in-Break-gates .ensures tt))
+    (no-gates (c .args .role) (c .args .bytes .now) (c .in-Continue-check-length .ensures tt) (c .in-Continue-header .header) (a .0) (a .1)
+    (placed-ok (moved-to-row 1) _ _ _ _ _ (c .in-row-2 .ensures) (c .in-Continue-in-row .was tt) (c .check-count .ensures)) _ (c .in-Break-gates .ensures tt))
 
 pub returns-in-Break-outputs : need.returns-in-Break-outputs
 returns-in-Break-outputs c =
     let p = err-from-errBy (c .from-residual-in-Break-outputs .result) (c .from-residual-in-Break-outputs .ensures .1) in
-    let a = cases-at-ok _ _ (c .in-Continue-header .header) (was-ok (moved-to-row 1) (c .read-header .result) _ (sym (c .in-row .ensures) ∙ c .in-Continue-header .was tt)) (c .read-header .ensures) in
-    let n = cases-at-ok _ _ _ (was-ok (moved-to-row 1) (c .check-count .result) _ (sym (c .in-row-2 .ensures) ∙ c .in-Continue-in-row .was tt)) (c .check-count .ensures) in
+    let a = placed-ok (moved-to-row 1) _ _ _ _ _ (c .in-row .ensures) (c .in-Continue-header .was tt) (c .read-header .ensures) in
     rw (p .1, p .2)
-    (no-outputs (c .args .role) (c .args .bytes .now) (c .in-Continue-check-length .ensures tt) (c .in-Continue-header .header) (a .0) (a .1) n (c .in-Continue-gates .ensures tt .0) _
-    (c .in-Break-outputs .ensures tt))
+    (no-outputs (c .args .role) (c .args .bytes .now) (c .in-Continue-check-length .ensures tt) (c .in-Continue-header .header) (a .0) (a .1)
+    (placed-ok (moved-to-row 1) _ _ _ _ _ (c .in-row-2 .ensures) (c .in-Continue-in-row .was tt) (c .check-count .ensures)) (c .in-Continue-gates .ensures tt .0) _ (c .in-Break-outputs .ensures tt))
 
 pub ghost-result : need.ghost-result
 ghost-result c =
-    let t = c .args .bytes .now in
-    let a = cases-at-ok _ _ (c .in-Continue-header .header) (was-ok (moved-to-row 1) (c .read-header .result) _ (sym (c .in-row .ensures) ∙ c .in-Continue-header .was tt)) (c .read-header .ensures) in
-    let n = cases-at-ok _ _ _ (was-ok (moved-to-row 1) (c .check-count .result) _ (sym (c .in-row-2 .ensures) ∙ c .in-Continue-in-row .was tt)) (c .check-count .ensures) in
-    let g = c .in-Continue-gates .ensures tt in
-    let q = c .in-Continue-outputs .ensures tt in
-    let l = lawful-is (c .args .role) t _ (no-fault (c .args .role) t (c .in-Continue-check-length .ensures tt) (c .in-Continue-header .header) (a .0) (a .1) n (g .0) (q .0))
-      (sheet-is t (c .in-Continue-header .header) _ _ (a .1) (g .1) (q .1)) in
+    let a = placed-ok (moved-to-row 1) _ _ _ _ _ (c .in-row .ensures) (c .in-Continue-header .was tt) (c .read-header .ensures) in
+    let l = lawful-is (c .args .role) (c .args .bytes .now) _ (no-fault (c .args .role) (c .args .bytes .now) (c .in-Continue-check-length .ensures tt) (c .in-Continue-header .header) (a .0) (a .1)
+    (placed-ok (moved-to-row 1) _ _ _ _ _ (c .in-row-2 .ensures) (c .in-Continue-in-row .was tt) (c .check-count .ensures)) (c .in-Continue-gates .ensures tt .0) (c .in-Continue-outputs .ensures tt .0))
+      (sheet-is (c .args .bytes .now) (c .in-Continue-header .header) _ _ (a .1) (c .in-Continue-gates .ensures tt .1) (c .in-Continue-outputs .ensures tt .1)) in
     (l .few, (l .sized, (l .shown, (l .below, (l .driven, (l .rows, tt))))))
 
 pub returns : need.returns
 returns c =
-    let t = c .args .bytes .now in
-    let a = cases-at-ok _ _ (c .in-Continue-header .header) (was-ok (moved-to-row 1) (c .read-header .result) _ (sym (c .in-row .ensures) ∙ c .in-Continue-header .was tt)) (c .read-header .ensures) in
-    let n = cases-at-ok _ _ _ (was-ok (moved-to-row 1) (c .check-count .result) _ (sym (c .in-row-2 .ensures) ∙ c .in-Continue-in-row .was tt)) (c .check-count .ensures) in
-    let g = c .in-Continue-gates .ensures tt in
-    let q = c .in-Continue-outputs .ensures tt in
-    (no-fault (c .args .role) t (c .in-Continue-check-length .ensures tt) (c .in-Continue-header .header) (a .0) (a .1) n (g .0) (q .0),
-    sheet-is t (c .in-Continue-header .header) _ _ (a .1) (g .1) (q .1))
+    let a = placed-ok (moved-to-row 1) _ _ _ _ _ (c .in-row .ensures) (c .in-Continue-header .was tt) (c .read-header .ensures) in
+    (no-fault (c .args .role) (c .args .bytes .now) (c .in-Continue-check-length .ensures tt) (c .in-Continue-header .header) (a .0) (a .1)
+    (placed-ok (moved-to-row 1) _ _ _ _ _ (c .in-row-2 .ensures) (c .in-Continue-in-row .was tt) (c .check-count .ensures)) (c .in-Continue-gates .ensures tt .0) (c .in-Continue-outputs .ensures tt .0),
+    sheet-is (c .args .bytes .now) (c .in-Continue-header .header) _ _ (a .1) (c .in-Continue-gates .ensures tt .1) (c .in-Continue-outputs .ensures tt .1))
