@@ -4,14 +4,12 @@ use circuit::gate::Gate;
 use circuit::gate::Inputs;
 use circuit::gate::Kind;
 use circuit::pair::Pair;
-use layout::row::row_text;
+use layout::row::fault_row;
 use refusal::fault::Fault;
 use refusal::fault::FaultDisplay;
 use sheet::length::pair_length;
-use sheet::read::read_pair;
-use sheet::room::PairRoom;
+use sheet::read::load_pair;
 use sheet::write::write_pair;
-use std::alloc::Global;
 use std::io;
 use std::io::Read;
 use std::io::Write;
@@ -96,24 +94,16 @@ fn print_pair(rt: &LibcRuntime, pair: &Pair, bytes: &[u8]) -> io::Result<()> {
 }
 
 /// The fault as a row F with its number, sheet, row and column, and in words on standard error.
-fn print_fault(rt: &LibcRuntime, fault: Fault) -> io::Result<()> {
-    let place = [fault.number(), u32::from(fault.sheet), u32::from(fault.row), u32::from(fault.column)];
-    rt.stdout().write_all(&row_text(b'F', &place))?;
+fn print_fault(rt: &LibcRuntime, fault: &Fault) -> io::Result<()> {
+    rt.stdout().write_all(&fault_row(fault))?;
     eprintln!(rt, "{fault}")
-}
-
-fn read(heap: Global, bytes: &[u8]) -> Result<Pair, Fault> {
-    match PairRoom::new(heap) {
-        Ok(room) => read_pair(room, bytes),
-        Err(refusal) => Err(Fault::at(refusal, 0)),
-    }
 }
 
 fn main(rt: LibcRuntime) -> io::Result<()> {
     let mut bytes = Vec::new(rt.alloc());
     rt.stdin().take(LONGEST).read_to_end(&mut bytes)?;
-    match read(rt.alloc(), bytes.as_slice()) {
+    match load_pair(rt.alloc(), bytes.as_slice()) {
         Ok(pair) => print_pair(&rt, &pair, bytes.as_slice()),
-        Err(fault) => print_fault(&rt, fault),
+        Err(fault) => print_fault(&rt, &fault),
     }
 }

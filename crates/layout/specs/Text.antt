@@ -12,6 +12,8 @@ use Rattle.std.specs.declared.result.Result.{Result}
 use Rattle.std.specs.declared.result.Result.the-variants.{Ok, Err}
 use Rattle.refusal.specs.declared.refusal.Refusal.{Refusal}
 use Rattle.refusal.specs.declared.refusal.Refusal.the-variants.{FieldForm}
+use Rattle.refusal.specs.declared.fault.Fault.{Fault}
+use Rattle.refusal.specs.Numbers.{numberOf}
 
 -- A column of that weight before the last: a space in a blank field and before a number's first digit, else a digit.
 abbrev pub column : ℕ → Option ℕ → ℕ
@@ -46,3 +48,7 @@ numeral x = sameBytes x (columns (Some (decoded x)))
 -- what five columns hold
 abbrev pub field-value : List ℕ → Result (Option ℕ) Refusal
 field-value x = cond (blank x) (Ok None) (cond (numeral x) (Ok (Some (decoded x))) (Err FieldForm))
+
+-- the row of a fault: 'F', then its number, sheet, row and column
+abbrev pub fault-text : Fault → List ℕ
+fault-text f = row-text 70 (numberOf (f .refusal) ∷ f .sheet ∷ f .row ∷ f .column ∷ [])

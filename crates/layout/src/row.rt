@@ -1,9 +1,10 @@
 // A row: a letter, numbers in the first fields, the others blank, and a line feed.
 ghost use mathlib.Core.Path.{_≡_};
 ghost use Rattle.std.specs.Finite.{nth};
-ghost use Rattle.layout.specs.Text.{columns, row-text};
+ghost use Rattle.layout.specs.Text.{columns, row-text, fault-text};
 use crate::field::Columns;
 use crate::field::field_columns;
+use refusal::fault::Fault;
 
 /// A row's 32 bytes.
 pub type Row = [u8; 32];
@@ -29,4 +30,11 @@ pub fn row_text(letter: u8, numbers: &[u32]) -> Row
         letter, a1, a2, a3, a4, a5, b1, b2, b3, b4, b5, c1, c2, c3, c4, c5, d1, d2, d3, d4, d5, e1, e2, e3, e4, e5, f1, f2, f3,
         f4, f5, b'\n',
     ]
+}
+
+/// The row of a fault: F with its number, sheet, row and column.
+pub fn fault_row(fault: &Fault) -> Row
+    ensures { λ r. ⌜ r ≡ fault-text (now (fault .entry)) ⌝ }
+{
+    row_text(b'F', &[fault.number(), u32::from(fault.sheet), u32::from(fault.row), u32::from(fault.column)])
 }

@@ -13,7 +13,7 @@ ghost use Rattle.circuit.specs.View.{drawn};
 ghost use Rattle.sheet_format.specs.Rows.{size};
 ghost use Rattle.sheet_format.specs.Decoding.{row-at, gates-in, outputs-in, gates-read, outputs-read, sheet-in};
 ghost use Rattle.sheet_format.specs.FirstFault.{gates-fault, outputs-fault, rows-counted, sheet-fault};
-ghost use Rattle.sheet.specs.Answers.{SheetRead, PairRead};
+ghost use Rattle.sheet.specs.Answers.{SheetRead, PairRead, PairLoaded};
 ghost use Rattle.sheet.specs.Parts.{Headed};
 use crate::length::sheet_length;
 use crate::parts::Header;
@@ -28,8 +28,10 @@ use circuit::pair::Pair;
 use refusal::fault::Fault;
 use refusal::fault::Placed;
 use refusal::fault::ResultPlaced;
+use refusal::fault::in_column;
 use refusal::refusal::Refusal;
 use sheet_format::role::Role;
+use std::alloc::Global;
 
 /// The gates of a sheet whose header was read, in order.
 fn read_gates(bytes: &[u8], role: Role, header: Header, mut gates: Vec<Gate>) -> Result<Vec<Gate>, Fault>
@@ -126,4 +128,12 @@ pub fn read_pair(room: PairRoom, bytes: &[u8]) -> Result<Pair, Fault>
         target,
         specification,
     })
+}
+
+/// The same in memory of its own, the want of which is a fault of no sheet.
+pub fn load_pair(heap: Global, bytes: &[u8]) -> Result<Pair, Fault>
+    ensures { λ r. ⌜ PairLoaded (now (bytes .entry)) r ⌝ }
+{
+    let room = in_column(PairRoom::new(heap), 0)?;
+    read_pair(room, bytes)
 }

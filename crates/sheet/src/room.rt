@@ -13,8 +13,8 @@ use std::alloc::Global;
 /// Memory for one circuit, enough for any lawful one. Reading takes it, so that only this can fail for want of memory.
 #[derive(Drop)]
 pub struct Room {
-    pub gates: Vec<Gate>,
-    pub outputs: Vec<u8>,
+    pub(crate) gates: Vec<Gate>,
+    pub(crate) outputs: Vec<u8>,
     ghost no_gates: { (vec-items gates ≡ []) × (vec-len gates ≡ 0) },
     ghost no_outputs: { (vec-items outputs ≡ []) × (vec-len outputs ≡ 0) },
     ghost gates_fit: { 200 ≤ vec-cap gates },
@@ -35,8 +35,8 @@ impl Room {
 /// Memory for the two circuits of a pair.
 #[derive(Drop)]
 pub struct PairRoom {
-    pub target: Room,
-    pub specification: Room,
+    pub(crate) target: Room,
+    pub(crate) specification: Room,
 }
 
 impl PairRoom {
