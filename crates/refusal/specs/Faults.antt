@@ -44,8 +44,9 @@ in-sheet k r = map-err (moved-to-sheet k) r
 abbrev pub sheet-words : ℕ → List ℕ
 sheet-words k = cond (eqb k 1) (codes "target") (cond (eqb k 2) (codes "specification") (codes "sheet"))
 
--- a fault in plain words; a fault of the sheet's length is in no row
+-- a fault in plain words; one of the whole sheet is in no row, and a refusal that is no sheet's has its words alone
 abbrev pub fault-words : Fault → List ℕ
 fault-words f =
-    cond (eqb (f .row) 0) (sheet-words (f .sheet) ++ (codes ": " ++ wordsOf (f .refusal)))
+    cond (eqb (f .row) 0)
+    (cond (eqb (f .sheet) 0) (wordsOf (f .refusal)) (sheet-words (f .sheet) ++ (codes ": " ++ wordsOf (f .refusal))))
     (sheet-words (f .sheet) ++ (codes ", row " ++ (decimal (f .row) ++ (codes ", column " ++ (decimal (f .column) ++ (codes ": " ++ wordsOf (f .refusal)))))))

@@ -53,6 +53,9 @@ pub impl fmt::Display for Fault as FaultDisplay {
         let words = self.refusal.words();
         let row = self.row;
         let column = self.column;
+        if row == 0 && self.sheet == 0 {
+            return f.write_str(words);
+        }
         if row == 0 {
             return write!(f, "{sheet}: {words}");
         }

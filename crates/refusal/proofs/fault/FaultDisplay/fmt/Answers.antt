@@ -20,4 +20,4 @@ said f a w n p q = rw (p, q, ne-eqb (f .row) 0 n)
 
 pub returns : need.returns
 returns g c = λ plain ok.
-    put-is _ _ _ _ _ (said (c .args .self .now) _ _ (c .if-row-eq0 .left) (c .sheet-name-sheet .ensures) (c .words-words .ensures)) (c .write-2 .ensures .shows plain ok)
+    put-is _ _ _ _ _ (said (c .args .self .now) _ _ (c .if-row-eq0-2 .left) (c .sheet-name-sheet .ensures) (c .words-words .ensures)) (c .write-2 .ensures .shows plain ok)

@@ -1,0 +1,4 @@
+pub mod Masks
+pub mod Runs
+pub mod Compare
+pub mod Trailing

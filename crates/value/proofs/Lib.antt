@@ -1,0 +1,9 @@
+pub mod Words
+pub mod Sharpness
+pub mod Tables
+pub mod Simulation
+pub mod Outcomes
+pub mod Completions
+pub mod Held
+pub mod Runs
+pub mod Exact
