@@ -1,4 +1,5 @@
-/* Calls the host's two calls on the files named, on every word and some settings, and on damaged bytes, and prints what came. */
+/* Calls the host's two calls on the files named, at the settings and input words below 5, and on the files cut short, and prints
+ * what came. */
 #include "../include/rectifier.h"
 
 #include <stdio.h>
