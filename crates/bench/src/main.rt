@@ -1,5 +1,5 @@
-// How many gate evaluations a second the evaluator makes, one input word at a time and 64 at a time, in one run.
-// The numbers go to standard error: they differ from run to run.
+// How many gate evaluations a second the evaluator makes, one input word at a time and in 64 lanes at a time, in one run.
+// The numbers go to standard error: they differ from run to run. What the lanes hold does not change the cost, so all hold one word.
 use circuit::circuit::Circuit;
 use refusal::fault::FaultDisplay;
 use sheet::read::load_pair;
@@ -15,7 +15,7 @@ use value::word::WordAlgebra;
 /// One row more than the longest pair has.
 const LONGEST: u64 = 13_920;
 
-/// How many input words are gone through; those past a circuit's own repeat them.
+/// How often the circuit is evaluated, a lane counting as once.
 const WORDS: u64 = 262_144;
 
 fn put_bits(number: u64, places: &mut [Bit]) {
@@ -34,7 +34,7 @@ fn put_words(number: u64, places: &mut [Word]) {
     }
 }
 
-/// Every input word by itself; how often the first gate's net was 1.
+/// One input word at a time; how often the first gate's net was 1, so that no evaluation can be left out.
 fn by_bits(circuit: &Circuit) -> u64 {
     let m = circuit.rows().min(64);
     let n = usize::from(circuit.inputs).min(16);
@@ -50,7 +50,7 @@ fn by_bits(circuit: &Circuit) -> u64 {
     ones
 }
 
-/// Sixty-four input words at a time; how often the first gate's net was 1.
+/// In 64 lanes at a time; in how many lanes the first gate's net was 1.
 fn by_words(circuit: &Circuit) -> u64 {
     let m = circuit.rows().min(64);
     let n = usize::from(circuit.inputs).min(16);
@@ -81,9 +81,9 @@ fn measure(rt: &LibcRuntime, circuit: &Circuit) -> io::Result<()> {
     let many = start.elapsed(rt)?.as_nanos();
     let (slow, fast) = (rate(gates, one), rate(gates, many));
     let times = fast / slow.max(1);
-    eprintln!(rt, "{gates} gates, {WORDS} input words ({a}, {b})")?;
-    eprintln!(rt, "one word at a time: {slow} gate evaluations a second")?;
-    eprintln!(rt, "64 words at a time: {fast} gate evaluations a second, {times} times as many")
+    eprintln!(rt, "{gates} gates, {WORDS} evaluations ({a}, {b})")?;
+    eprintln!(rt, "one at a time: {slow} gate evaluations a second")?;
+    eprintln!(rt, "64 at a time: {fast} gate evaluations a second, {times} times as many")
 }
 
 fn main(rt: LibcRuntime) -> io::Result<()> {

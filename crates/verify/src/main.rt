@@ -1,4 +1,6 @@
 // The bench check: at which input words does a written setting differ from the specification?
+ghost use Rattle.circuit.specs.View.{drawn};
+ghost use Rattle.verify.specs.Count.{Counted};
 use circuit::pair::Pair;
 use layout::row::fault_row;
 use matching::matching::next_difference;
@@ -6,6 +8,7 @@ use matching::outputs::outputs;
 use refusal::fault::Fault;
 use refusal::fault::FaultDisplay;
 use refusal::refusal::Refusal;
+use refusal::refusal::RefusalDisplay;
 use sheet::read::load_pair;
 use std::env;
 use std::error::AnyError;
@@ -36,7 +39,9 @@ fn argument(rt: &LibcRuntime) -> Result<u64, AnyError> {
 }
 
 /// How many input words give outputs that differ.
-fn count(pair: &Pair, setting: u64) -> Result<u64, Refusal> {
+fn count(pair: &Pair, setting: u64) -> Result<u64, Refusal>
+    ensures { λ r. ⌜ Counted (drawn (now (pair .entry) .target)) (drawn (now (pair .entry) .specification)) setting r ⌝ }
+{
     let mut total = 0;
     let mut from = 0;
     while let Some(word) = next_difference(pair, setting, from)? {
@@ -46,6 +51,14 @@ fn count(pair: &Pair, setting: u64) -> Result<u64, Refusal> {
     Ok(total)
 }
 
+/// What the target gives at the word, and what the specification wants.
+fn print_word(rt: &LibcRuntime, pair: &Pair, setting: u64, word: u64) -> io::Result<()> {
+    match (outputs(&pair.target, setting, word), outputs(&pair.specification, 0, word)) {
+        (Ok(given), Ok(wanted)) => println!(rt, "word {word}: outputs {given}, wanted {wanted}"),
+        (Err(refusal), _) | (_, Err(refusal)) => eprintln!(rt, "word {word}: {refusal}"),
+    }
+}
+
 /// A line for each of the first differing words, in rising order.
 fn print_words(rt: &LibcRuntime, pair: &Pair, setting: u64) -> io::Result<()> {
     let mut from = 0;
@@ -53,9 +66,7 @@ fn print_words(rt: &LibcRuntime, pair: &Pair, setting: u64) -> io::Result<()> {
         let Ok(Some(word)) = next_difference(pair, setting, from) else {
             break;
         };
-        let given = outputs(&pair.target, setting, word).unwrap_or(0);
-        let wanted = outputs(&pair.specification, 0, word).unwrap_or(0);
-        println!(rt, "word {word}: outputs {given}, wanted {wanted}")?;
+        print_word(rt, pair, setting, word)?;
         from = word + 1;
     }
     Ok(())
