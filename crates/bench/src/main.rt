@@ -1,5 +1,7 @@
 // How many gate evaluations a second the evaluator makes, one input word at a time and in 64 lanes at a time, in one run.
 // The numbers go to standard error: they differ from run to run. What the lanes hold does not change the cost, so all hold one word.
+#![tactic(auto)]
+
 use circuit::circuit::Circuit;
 use sheet::read::load_pair;
 use std::io;

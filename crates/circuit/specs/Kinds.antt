@@ -1,5 +1,5 @@
 -- What a kind of gate is: its name, its letter in a sheet, how many inputs it takes, and its Boolean function.
-use Rattle.std.specs.Prelude.{ℕ, ◌+◌, ◌*◌, Bool, true, false, cond, not, ◌&&◌, ◌||◌, List, [], ◌∷◌, Some, None, codes, Option, ◌==◌, slice_index_or}
+use Rattle.std.specs.Prelude.{ℕ, ◌+◌, ◌*◌, Bool, false, cond, not, ◌&&◌, ◌||◌, List, [], ◌∷◌, Some, None, codes, Option, ◌==◌, slice_index_or}
 use Rattle.circuit.specs.declared.gate.Unary.TheVariants.{Buffer, Inverter}
 use Rattle.circuit.specs.declared.gate.Binary.TheVariants.{And, Or, Xor, Nand, Nor, Xnor}
 use Rattle.circuit.specs.declared.gate.Kind.{Kind}

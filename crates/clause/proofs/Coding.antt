@@ -1,8 +1,8 @@
 -- Clauses in memory: what was written is read again, clause by clause and at every head.
-use Rattle.std.proofs.Common.{◌≡◌, ℕ, zero, suc, ◌+◌, ◌-◌, ◌<◌, ◌≤◌, Bool, true, false, cond, not, eqb, ltb, List, [], ◌∷◌, ◌++◌, map, length, get_or, take, drop, sym, refl, ap, ◌∙◌, subst, append_assoc, append-nil, add-one, arith, length-append, length-drop, drop-cons, drop-drop, take_at, drop_at, ltb-false, ltb-true, le-ltb, lt-ltb, ne_eqb, eqb-true}
+use Rattle.std.proofs.Common.{◌≡◌, ℕ, zero, suc, ◌+◌, ◌-◌, ◌<◌, ◌≤◌, Bool, true, false, cond, eqb, ltb, List, [], ◌∷◌, ◌++◌, map, length, get_or, take, drop, sym, refl, ap, ◌∙◌, append_assoc, append-nil, add-one, arith, length-append, length-drop, drop-cons, drop-drop, take_at, drop_at, ltb-false, le-ltb, ne_eqb, eqb-true}
 use borrow.Author.Tests.{both_ways}
 use Rattle.std.proofs.lemmas.List.{drop_all}
-use Rattle.clause.specs.Logic.{Row, Clause, clause_holds, all_hold, words, some_outside, all_inside}
+use Rattle.clause.specs.Logic.{Clause, clause_holds, all_hold, words, some_outside, all_inside}
 use Rattle.clause.specs.Memory.{head, encode, decode, clauses_of, is_head, Begins, parts_of}
 use Rattle.clause.specs.declared.literal.Literal.{Literal}
 use Rattle.clause.proofs.Inside.{no_literal, both_true, all_true}

@@ -1,5 +1,5 @@
 -- Literals of a clause within the variables 1 to v, one by one.
-use Rattle.std.proofs.Common.{◌≡◌, ℕ, zero, suc, ◌+◌, ◌-◌, ◌<◌, ◌≤◌, Bool, true, false, cond, not, ltb, List, [], ◌∷◌, ◌++◌, length, get_or, drop, sym, refl, ap, ◌∙◌, arith, ltb-false, le-ltb, lt-ltb}
+use Rattle.std.proofs.Common.{◌≡◌, ℕ, ◌+◌, ◌<◌, ◌≤◌, Bool, true, false, cond, ltb, List, [], ◌∷◌, ◌++◌, length, get_or, drop, sym, refl, ap, ◌∙◌, arith, ltb-false, le-ltb, lt-ltb}
 use borrow.Author.Tests.{both_ways}
 use Rattle.std.proofs.lemmas.List.{drop_more}
 use Rattle.clause.specs.Logic.{Clause, outside, some_outside, all_inside}

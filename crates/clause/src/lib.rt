@@ -1,3 +1,5 @@
 // Literals and clauses: the terms that every engine speaks in.
+#![tactic(auto)]
+
 pub mod clause;
 pub mod literal;

@@ -1,9 +1,8 @@
 -- When a call of an engine is refused, and when not.
-use Rattle.std.proofs.Common.{◌≡◌, ℕ, ◌+◌, ◌<◌, ◌≤◌, Bool, true, false, cond, not, ltb, length, Some, None, Option, sym, refl, ap, ◌∙◌, arith, le-ltb, lt-ltb}
-use Rattle.refusal.specs.declared.refusal.Refusal.{Refusal}
+use Rattle.std.proofs.Common.{◌≡◌, ℕ, ◌+◌, ◌<◌, ◌≤◌, true, false, ltb, length, Some, None, Option, arith, le-ltb, lt-ltb}
 use Rattle.refusal.specs.declared.refusal.Refusal.TheVariants.{PlacesLacking, StepsSpent}
 use Rattle.clause.specs.Logic.{Clause, words, some_outside}
-use Rattle.engine.specs.Calls.{refuse_if, grow_refusal, add_refusal, step_refusal, step_limit}
+use Rattle.engine.specs.Calls.{grow_refusal, add_refusal, step_refusal, step_limit}
 use Rattle.engine.specs.Search.{run_refusal}
 use Rattle.engine.specs.View.{View, is_searching}
 

@@ -1,15 +1,15 @@
 -- Many steps one after another: what they keep, that they lower the debt, and that the answer is right.
-use Rattle.std.proofs.Common.{◌≡◌, ℕ, zero, suc, ◌+◌, ◌-◌, ◌*◌, ◌^◌, ◌<◌, ◌≤◌, Bool, true, false, cond, not, ◌⊎◌, List, None, sym, refl, ap, ◌∙◌, subst, inl, inr, add-one, arith, pow_pos}
+use Rattle.std.proofs.Common.{◌≡◌, ℕ, zero, suc, ◌+◌, ◌*◌, ◌^◌, ◌<◌, ◌≤◌, true, false, ◌⊎◌, List, None, sym, refl, ap, ◌∙◌, subst, inl, inr, add-one, arith, pow_pos}
 use borrow.Author.Tests.{both_ways}
 use native.Mathlib.Nat.{pow-succ'}
-use Rattle.clause.specs.Logic.{Row, Clause, Solves, Unsolvable}
+use Rattle.clause.specs.Logic.{Clause, Solves}
 use Rattle.engine.specs.declared.types.Answer.{Answer}
 use Rattle.engine.specs.declared.types.Answer.TheVariants.{More, Model, Unsatisfiable}
 use Rattle.engine.specs.View.{View, State, allowance, owed, owed_in, has_answered}
 use Rattle.engine.specs.View.State.{idle, searching, model, none}
 use Rattle.engine.specs.Calls.{Seeks, Moves, StepsTo, step_limit, step_refusal}
 use Rattle.engine.proofs.Refusals.{step_admits}
-use Rattle.engine.specs.Search.{Mores, Ends, Steps, Right, Searched, ComesTo, Agree}
+use Rattle.engine.specs.Search.{Mores, Ends, Steps, Right, Searched, Agree}
 
 -- k steps that answer more: what stays, and, from an engine that had not answered, the debt that is left
 pub record Went (k : ℕ) (e e' : View) : Type 0 where

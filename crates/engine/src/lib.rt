@@ -1,4 +1,6 @@
 // Engines: the interface with its meaning, and running a search to its answer.
+#![tactic(auto)]
+
 pub mod engine;
 pub mod laws;
 pub mod search;

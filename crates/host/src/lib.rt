@@ -1,4 +1,6 @@
-// The two calls of a C host, over a pair's bytes.
+// The two calls of a C host, over a pair's bytes; `host_c` exports them.
+#![tactic(auto)]
+
 ghost use Rattle.std.specs.Prelude.{◌≡◌, MatchResult};
 ghost use Rattle.refusal.specs.Numbers.{number_of};
 ghost use Rattle.circuit.specs.View.{drawn};
@@ -11,16 +13,14 @@ use sheet::read::load_pair;
 use std::alloc::Global;
 
 /// Reads a pair: 0, or the number of its first fault.
-#[unsafe(no_mangle)]
-pub extern "C" fn rectifier_read(heap: Global, pair: &[u8]) -> u32
+pub fn rectifier_read(heap: Global, pair: &[u8]) -> u32
     ensures { ReadCode pair.now result }
 {
     read_code(&load_pair(heap, pair))
 }
 
 /// Reads a pair and matches it at a setting and an input word: 100 for yes, 101 for no, or the number of the refusal.
-#[unsafe(no_mangle)]
-pub extern "C" fn rectifier_match(heap: Global, pair: &[u8], setting: u64, word: u64) -> u32
+pub fn rectifier_match(heap: Global, pair: &[u8], setting: u64, word: u64) -> u32
     ensures { MatchCode pair.now setting word result }
 {
     match load_pair(heap, pair) {

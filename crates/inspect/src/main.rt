@@ -1,4 +1,6 @@
 // Reads a pair of sheets from standard input, and says what is in it, or its first fault.
+#![tactic(auto)]
+
 use circuit::circuit::Circuit;
 use circuit::gate::{Gate, Inputs, Kind};
 use circuit::pair::Pair;

@@ -1,4 +1,6 @@
 // Target against specification: at one input word, and at every input word, 64 at a time.
+#![tactic(auto)]
+
 mod bits;
 mod lanes;
 pub mod laws;

@@ -1,5 +1,5 @@
 -- The engine's invariants: idle it owes nothing of the trail, and while it searches they say that the search stands.
-use Rattle.std.proofs.Common.{◌≡◌, ℕ, ◌+◌, ◌≤◌, Bool, true, false, cond, not, List, [], ◌∷◌, ◌++◌, length, take, replicate, is_some, sym, refl, ap, ◌∙◌, subst, arith}
+use Rattle.std.proofs.Common.{◌≡◌, ℕ, ◌+◌, Bool, true, false, cond, List, [], ◌∷◌, ◌++◌, length, take, replicate, is_some, sym, refl, ap, ◌∙◌, arith}
 use lib.ListN.{length-map}
 use Rattle.clause.specs.Logic.{Clause, all_inside, some_outside, words}
 use Rattle.clause.specs.Memory.{encode, head, parts_of}
@@ -8,8 +8,8 @@ use Rattle.engine.specs.Calls.{Seeks}
 use Rattle.engine.specs.declared.types.Answer.{Answer}
 use Rattle.engine.specs.declared.types.Answer.TheVariants as answer
 use Rattle.engine.specs.declared.types.Phase.{Phase}
-use Rattle.engine.specs.declared.types.Phase.TheVariants.{Idle, Searching, Model, Unsatisfiable}
-use Rattle.engine.specs.View.{allowance, owed_in}
+use Rattle.engine.specs.declared.types.Phase.TheVariants.{Idle, Searching}
+use Rattle.engine.specs.View.{owed_in}
 use Rattle.trail.specs.Cells.{values_of, entries_of, literals_of, heads_of, formula}
 use Rattle.trail.specs.Values.{told_of}
 use Rattle.trail.specs.Debt.{debt, nodes}
@@ -21,7 +21,7 @@ use Rattle.trail.proofs.Memory.{none_of, same_values}
 use Rattle.trail.proofs.Stores.{loaded_more}
 use Rattle.propagating.specs.Kept.{Headed, Short, Written, Assigned, Forced}
 use Rattle.propagating.specs.Meaning.{state_of, phase_after}
-use Rattle.propagating.specs.Parts.{Turns, Stood, Stepping}
+use Rattle.propagating.specs.Parts.{Turns}
 
 -- An idle engine does not search.
 pub idle_not : (p : Phase) → p ≡ Idle → p ≡ Searching → ⊥

@@ -1,7 +1,7 @@
 -- What a step comes to, over plain values.
-use Rattle.std.proofs.Common.{◌≡◌, ℕ, ◌+◌, ◌-◌, ◌<◌, ◌≤◌, Bool, true, false, cond, List, length, get_or, take, set, None, MatchBool, sym, refl, ap, ◌∙◌, subst, arith}
+use Rattle.std.proofs.Common.{◌≡◌, ℕ, ◌+◌, ◌-◌, ◌<◌, ◌≤◌, Bool, true, false, cond, List, get_or, take, set, None, MatchBool, sym, refl, ap, ◌∙◌, subst, arith}
 use borrow.Author.Tests.{both_ways}
-use Rattle.clause.specs.Logic.{Clause, outside}
+use Rattle.clause.specs.Logic.{Clause}
 use Rattle.clause.proofs.Inside.{not_outside}
 use Rattle.engine.specs.declared.types.Answer.{Answer}
 use Rattle.engine.specs.declared.types.Answer.TheVariants.{More, Model, Unsatisfiable}

@@ -1,6 +1,6 @@
 -- The first fault of a sheet, look by look, as the reader comes to it; and what a sheet without a fault gives.
 use Rattle.std.proofs.Common.{◌≡◌, ℕ, ◌-◌, ◌%◌, ◌<◌, ◌≤◌, Bool, true, false, eqb, ltb, List, ◌++◌, length, take, drop, Some, None, Ok, Err, vec_items, vec_len, Option, Result, sym, refl, ap, ◌∙◌, subst, arith, MatchResult}
-use Rattle.std.proofs.lemmas.Bool.{and_from, lt-ltb, eq-eqb, cases_Bool, and_parts, ltb-true, eqb-true}
+use Rattle.std.proofs.lemmas.Bool.{and_from, lt-ltb, eq-eqb, and_parts, ltb-true, eqb-true}
 use Rattle.std.proofs.lemmas.List.{length-append, take_rest}
 use Rattle.refusal.specs.declared.refusal.Refusal.TheVariants.{Length, RowCount}
 use Rattle.refusal.specs.declared.fault.Fault.{Fault}
@@ -12,7 +12,7 @@ use Rattle.circuit.specs.View.{drawn}
 use Rattle.sheet_format.specs.declared.role.Role.{Role}
 use Rattle.sheet_format.specs.declared.role.Role.TheVariants.{Alone, Target, Specification}
 use Rattle.sheet_format.specs.Rows.{size, rows, pair_rows}
-use Rattle.sheet_format.specs.Decoding.{row_at, inputs_in, gates_in, outputs_in, gates_read, outputs_read, sheet_in}
+use Rattle.sheet_format.specs.Decoding.{row_at, gates_in, outputs_in, gates_read, outputs_read, sheet_in}
 use Rattle.sheet_format.specs.FirstFault.{whole_rows, header_fault, rows_counted, gates_fault, outputs_fault, sheet_fault, after_target, pair_fault}
 use Rattle.sheet_format.specs.Laws.{RowsOf, PairOf}
 use Rattle.sheet_format.proofs.Sound.{sound, gates_length, outputs_length}

@@ -1,5 +1,5 @@
 -- Parts of a row, as slice patterns give them, and as the format names them.
-use Rattle.std.proofs.Common.{◌≡◌, ℕ, ◌+◌, ◌-◌, ◌*◌, ◌<◌, ◌≤◌, List, [], ◌∷◌, ◌++◌, length, get_or, take, drop, sym, ap, ◌∙◌, arith, rules}
+use Rattle.std.proofs.Common.{◌≡◌, ℕ, ◌+◌, ◌-◌, ◌<◌, List, length, get_or, take, drop, ap, arith, rules}
 use Rattle.std.proofs.lemmas.List.{same_lists, places, length-take, length-drop}
 
 -- what stands between a row's first byte and its last

@@ -1,4 +1,6 @@
 // Sheets: reading circuits and pairs from their bytes, with every fault exact, and writing them again.
+#![tactic(auto)]
+
 pub mod length;
 mod parts;
 pub mod read;

@@ -1,10 +1,10 @@
 -- What the absence of a fault says of the bytes, and what a circuit's rows owe the reader, for each role of a sheet.
-use Rattle.std.proofs.Common.{◌≡◌, ℕ, ◌%◌, List, [], ◌++◌, length, drop, None}
+use Rattle.std.proofs.Common.{◌≡◌, ℕ, ◌%◌, List, [], ◌++◌, length, None}
 use Rattle.circuit.specs.Gates.{Sheet, Lawful, Plain}
 use Rattle.sheet_format.specs.declared.role.Role.{Role}
 use Rattle.sheet_format.specs.declared.role.Role.TheVariants.{Alone, Target, Specification}
-use Rattle.sheet_format.specs.Rows.{rows, size}
-use Rattle.sheet_format.specs.Decoding.{sheet_in, gates_in, outputs_in}
+use Rattle.sheet_format.specs.Rows.{rows}
+use Rattle.sheet_format.specs.Decoding.{sheet_in}
 use Rattle.sheet_format.specs.FirstFault.{sheet_fault, after_target}
 
 -- a specification has no table

@@ -1,5 +1,5 @@
 -- The first fault of a sheet and of a pair: every look in its order, and the place of what it finds.
-use Rattle.std.specs.Prelude.{ℕ, zero, suc, ◌+◌, ◌*◌, ◌%◌, Bool, true, false, cond, not, ◌&&◌, ◌||◌, List, [], ◌∷◌, length, drop, is_some, Some, None, Option, ◌==◌, nat_le, nat_lt, slice_index}
+use Rattle.std.specs.Prelude.{ℕ, zero, suc, ◌+◌, ◌*◌, ◌%◌, Bool, true, false, cond, ◌&&◌, ◌||◌, List, [], ◌∷◌, length, drop, is_some, Some, None, Option, ◌==◌, nat_le, nat_lt, slice_index}
 use Rattle.std.specs.Option.{option_map}
 use Rattle.refusal.specs.declared.refusal.Refusal.TheVariants.{Length, LineFeed, Letter, FieldForm, FieldRange, RowCount, TableBits}
 use Rattle.refusal.specs.declared.fault.Fault.{Fault}

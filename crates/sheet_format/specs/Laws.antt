@@ -1,5 +1,5 @@
 -- What reading and writing owe each other.
-use Rattle.std.specs.Prelude.{◌≡◌, ℕ, List, [], ◌++◌, length, drop, None}
+use Rattle.std.specs.Prelude.{◌≡◌, ℕ, List, None}
 use Rattle.circuit.specs.Gates.{Sheet, Lawful, Plain}
 use Rattle.sheet_format.specs.declared.role.Role.TheVariants.{Alone}
 use Rattle.sheet_format.specs.Rows.{rows, pair_rows}

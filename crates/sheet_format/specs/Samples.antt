@@ -1,5 +1,5 @@
 -- Worked examples of the definitions.
-use Rattle.std.specs.Prelude.{◌≡◌, ℕ, List, [], ◌∷◌, ◌++◌, Some, None, Ok, Err, codes}
+use Rattle.std.specs.Prelude.{◌≡◌, List, [], ◌∷◌, ◌++◌, Some, None, Ok, Err, codes}
 use Rattle.refusal.specs.declared.refusal.Refusal.TheVariants.{FieldForm, FieldRange, TableBits}
 use Rattle.refusal.specs.Faults.{fault_at, moved_to_row}
 use Rattle.circuit.specs.declared.gate.Inputs.TheVariants.{One, Four}

@@ -1,5 +1,5 @@
 -- What the fields of each row of a sheet may hold.
-use Rattle.std.specs.Prelude.{ℕ, ◌+◌, ◌-◌, List, [], ◌∷◌}
+use Rattle.std.specs.Prelude.{ℕ, ◌+◌, ◌-◌, [], ◌∷◌}
 use Rattle.circuit.specs.declared.gate.Kind.{Kind}
 use Rattle.circuit.specs.Kinds.{fewest_inputs, most_inputs}
 use Rattle.layout.specs.declared.shape.Shape.{Shape}

@@ -1,7 +1,7 @@
 -- The trail and the open variables together are all variables, so a trail is full exactly where none is open.
-use Rattle.std.proofs.Common.{◌≡◌, ℕ, zero, suc, ◌+◌, ◌-◌, ◌<◌, ◌≤◌, Bool, true, false, List, [], ◌∷◌, ◌++◌, length, get_or, take, set, replicate, Some, None, Option, sym, refl, ap, ◌∙◌, subst, add-one, arith, length-set, length-take}
+use Rattle.std.proofs.Common.{◌≡◌, ℕ, zero, suc, ◌+◌, ◌-◌, ◌<◌, ◌≤◌, Bool, true, false, [], ◌∷◌, length, get_or, take, set, replicate, Some, None, sym, refl, ap, ◌∙◌, add-one, arith, length-set}
 use lib.ListN.{length-replicate}
-use Rattle.std.proofs.lemmas.List.{take_more, take-take, get_or-take, take_all}
+use Rattle.std.proofs.lemmas.List.{take_more, take_all}
 use Rattle.clause.specs.Logic.{outside}
 use Rattle.clause.proofs.Inside.{within}
 use Rattle.trail.specs.Cells.{empty_entry}

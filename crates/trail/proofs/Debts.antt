@@ -1,5 +1,5 @@
 -- The debt falls by at least one with each literal put on the trail, and with each return to an open decision.
-use Rattle.std.proofs.Common.{◌≡◌, ℕ, zero, suc, ◌+◌, ◌-◌, ◌*◌, ◌^◌, ◌<◌, ◌≤◌, Bool, true, false, cond, List, [], ◌∷◌, ◌++◌, length, take, sym, refl, ap, ◌∙◌, add-one, arith, pow_pos}
+use Rattle.std.proofs.Common.{◌≡◌, ℕ, zero, suc, ◌+◌, ◌-◌, ◌*◌, ◌^◌, ◌<◌, ◌≤◌, Bool, true, false, cond, [], ◌∷◌, ◌++◌, length, take, ap, ◌∙◌, add-one, arith, pow_pos}
 use native.Mathlib.Nat.{pow-succ'}
 use Rattle.trail.specs.Trail.{Trail, entry_at}
 use Rattle.trail.specs.Debt.{nodes, debt}

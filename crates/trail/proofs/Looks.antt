@@ -1,5 +1,5 @@
 -- A clause in memory read word by word, under the values so far.
-use Rattle.std.proofs.Common.{◌≡◌, ℕ, ◌+◌, ◌-◌, ◌<◌, ◌≤◌, Bool, true, false, cond, not, List, [], ◌∷◌, map, length, get_or, take, drop, is_some, Some, None, Option, unwrap_or, sym, refl, ap, ◌∙◌, subst, arith}
+use Rattle.std.proofs.Common.{◌≡◌, ℕ, ◌+◌, ◌-◌, ◌<◌, ◌≤◌, Bool, true, false, cond, not, List, [], ◌∷◌, length, get_or, take, drop, is_some, Some, None, Option, unwrap_or, sym, refl, ap, ◌∙◌, arith}
 use mathlib.Core.Bool.{beq}
 use borrow.Author.Tests.{both_ways}
 use lib.ListN.{length-map}
@@ -11,7 +11,7 @@ use Rattle.clause.proofs.Coding.{front, begins_at, ends_empty}
 use Rattle.clause.specs.declared.literal.Literal.{Literal}
 use Rattle.clause.proofs.Inside.{inside_at, all_true, both_true, within}
 use Rattle.trail.specs.Cells.{values_of, literals_of, heads_of, empty_literal, formula, size_at, clause_at}
-use Rattle.trail.specs.Values.{Values, value_so_far, either, truth, status_from, status, row_of}
+use Rattle.trail.specs.Values.{Values, either, truth, status_from, row_of}
 use Rattle.trail.specs.Standing.{Loaded}
 use Rattle.trail.specs.declared.cells.Slot.{Slot}
 use Rattle.trail.specs.declared.cells.Word.{Word}

@@ -8,7 +8,6 @@ use Rattle.clause.proofs.Inside.{within}
 use Rattle.trail.specs.Cells.{values_of, entries_of, empty_entry}
 use Rattle.trail.specs.Values.{Values, told_of}
 use Rattle.trail.specs.Trail.{Trail, written, Fresh, entry_at, literal_at}
-use Rattle.trail.specs.Standing.{BackTo}
 use Rattle.trail.specs.declared.cells.Slot.{Slot}
 use Rattle.trail.specs.declared.cells.Entry.{Entry}
 use Rattle.trail.proofs.Slots.{field_at}

@@ -1,18 +1,16 @@
 -- What keeps a search standing: a literal put on the trail, a conflict, and the return to the last open decision.
-use Rattle.std.proofs.Common.{◌≡◌, ℕ, zero, suc, ◌+◌, ◌-◌, ◌<◌, ◌≤◌, Bool, true, false, cond, not, ◌⊎◌, List, [], ◌∷◌, ◌++◌, length, get_or, take, set, replicate, Some, None, Option, sym, refl, ap, ◌∙◌, subst, inl, inr, add-one, arith, length-append, length-set, length-take}
-use borrow.Author.Tests.{both_ways}
+use Rattle.std.proofs.Common.{◌≡◌, ℕ, zero, suc, ◌+◌, ◌-◌, ◌<◌, ◌≤◌, Bool, true, false, cond, not, ◌⊎◌, List, [], ◌∷◌, ◌++◌, length, get_or, take, set, None, sym, refl, ap, ◌∙◌, subst, inl, inr, arith, length-set, length-take}
 use Rattle.std.proofs.lemmas.List.{take_more, take_more_set, take-take, take_at, take-append-le, get_or-take, get_or_append_left, get_or_push, set-set, set-get_or, length_push}
-use Rattle.std.proofs.lemmas.Bool.{cases_lt, cases_Bool}
-use Rattle.clause.specs.Logic.{Row, Clause, Solves, literal_holds, clause_holds, all_hold, outside, negation}
+use Rattle.std.proofs.lemmas.Bool.{cases_lt}
+use Rattle.clause.specs.Logic.{Row, Clause, Solves, literal_holds, outside, negation}
 use Rattle.clause.specs.declared.literal.Literal.{Literal}
-use Rattle.clause.proofs.Inside.{within}
 use Rattle.trail.specs.Cells.{empty_entry}
 use Rattle.trail.specs.Values.{Values, value_so_far, assign}
-use Rattle.trail.specs.Trail.{Trail, written, Fresh, entry_at, literal_at, agrees, Reaches, Sound, Refuted}
+use Rattle.trail.specs.Trail.{Trail, written, Fresh, entry_at, literal_at, agrees, Sound, Refuted}
 use Rattle.trail.specs.Debt.{debt}
 use Rattle.trail.specs.Standing.{Standing, BackTo, Reversed, AllForced}
 use Rattle.trail.specs.declared.cells.Entry.{Entry}
-use Rattle.trail.proofs.Fitting.{written_push, agrees_push, fits_written}
+use Rattle.trail.proofs.Fitting.{written_push, agrees_push}
 use Rattle.trail.proofs.Counting.{room, written_more, length_written}
 use Rattle.trail.proofs.Debts.{debt_push, debt_back}
 

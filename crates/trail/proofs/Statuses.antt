@@ -1,5 +1,5 @@
 -- What a clause's status says of every row that fits the values so far.
-use Rattle.std.proofs.Common.{◌≡◌, ℕ, ◌+◌, ◌-◌, Bool, true, false, cond, not, ◌⊎◌, List, [], ◌∷◌, Some, None, Option, sym, refl, ap, ◌∙◌, subst, inl, inr, arith}
+use Rattle.std.proofs.Common.{◌≡◌, ℕ, Bool, true, false, cond, not, ◌⊎◌, [], ◌∷◌, Some, None, Option, sym, refl, ap, ◌∙◌, inl, inr, arith}
 use Rattle.clause.specs.Logic.{Row, Clause, literal_holds, clause_holds, outside, some_outside}
 use Rattle.clause.specs.declared.literal.Literal.{Literal}
 use Rattle.clause.proofs.Inside.{either_false}

@@ -1,13 +1,13 @@
 -- A clause written into memory word by word: its literals, its heads, and what the whole list then is.
-use Rattle.std.proofs.Common.{◌≡◌, ℕ, zero, suc, ◌+◌, ◌-◌, ◌<◌, ◌≤◌, true, false, ◌⊎◌, List, [], ◌∷◌, ◌++◌, map, length, get_or, take, set, replicate, sym, refl, ap, ◌∙◌, subst, inl, inr, append_assoc, arith, length-append}
+use Rattle.std.proofs.Common.{◌≡◌, ℕ, suc, ◌+◌, ◌-◌, ◌<◌, ◌≤◌, true, false, ◌⊎◌, List, [], ◌∷◌, ◌++◌, map, length, get_or, take, set, replicate, sym, ap, ◌∙◌, inl, inr, append_assoc, arith, length-append}
 use lib.ListN.{length-replicate, length-map}
 use Rattle.std.proofs.lemmas.List.{take_more, take_more_set, take_all, map_push, replicate_more, get_or_append_left, get_or-append_right, get_or-replicate}
 use Rattle.std.proofs.lemmas.Bool.{cases_lt}
 use Rattle.clause.specs.Logic.{Clause, words, some_outside, all_inside}
-use Rattle.clause.specs.Memory.{head, encode, is_head}
+use Rattle.clause.specs.Memory.{head, is_head}
 use Rattle.clause.specs.declared.literal.Literal.{Literal}
 use Rattle.clause.proofs.Inside.{inside_push}
-use Rattle.clause.proofs.Coding.{Stored, stored, coded_words, head_stays, head_last}
+use Rattle.clause.proofs.Coding.{stored, coded_words, head_stays, head_last}
 use Rattle.trail.specs.Cells.{literals_of, heads_of, formula, empty_literal}
 use Rattle.trail.specs.Standing.{Loaded}
 use Rattle.trail.specs.declared.cells.Word.{Word}

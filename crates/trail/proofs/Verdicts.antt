@@ -1,18 +1,17 @@
 -- What a clause's status does to a search, and what a full trail says.
-use Rattle.std.proofs.Common.{◌≡◌, ℕ, zero, suc, ◌+◌, ◌-◌, ◌<◌, ◌≤◌, Bool, true, false, cond, not, ◌⊎◌, List, [], ◌∷◌, ◌++◌, map, length, get_or, take, set, Some, None, Option, unwrap_or, sym, refl, ap, ◌∙◌, subst, inl, inr, arith}
+use Rattle.std.proofs.Common.{◌≡◌, ℕ, ◌+◌, ◌<◌, ◌≤◌, Bool, true, false, ◌⊎◌, List, length, get_or, take, set, Some, None, Option, unwrap_or, sym, refl, ap, ◌∙◌, subst, inl, inr, arith}
 use borrow.Author.Tests.{both_ways}
 use lib.ListN.{length-map}
 use Rattle.std.proofs.lemmas.List.{get_or-map, get_or_past, ext_get_or}
 use Rattle.std.proofs.lemmas.Bool.{cases_lt}
-use Rattle.clause.specs.Logic.{Row, Clause, Solves, literal_holds, clause_holds, all_hold, outside, some_outside}
+use Rattle.clause.specs.Logic.{Row, Clause, Solves, clause_holds, all_hold, outside, some_outside}
 use Rattle.clause.specs.declared.literal.Literal.{Literal}
 use Rattle.trail.specs.Values.{Values, value_so_far, assign, status, row_of}
-use Rattle.trail.specs.Trail.{Trail, written, agrees, Refuted}
-use Rattle.trail.specs.Debt.{debt}
+use Rattle.trail.specs.Trail.{Trail, agrees, Refuted}
 use Rattle.trail.specs.Standing.{Standing, Onward}
 use Rattle.trail.specs.declared.cells.Entry.{Entry}
 use Rattle.trail.specs.declared.status.Status.TheVariants.{Unit, Falsified}
-use Rattle.trail.proofs.Fitting.{Fits, fits_written, no_some}
+use Rattle.trail.proofs.Fitting.{Fits, fits_written}
 use Rattle.trail.proofs.Statuses.{unit, falsified}
 use Rattle.trail.proofs.Soundness.{Forces, pushed}
 

@@ -1,4 +1,6 @@
 // Kinds of value, and the evaluation of circuits, written once for every kind.
+#![tactic(auto)]
+
 pub mod bit;
 pub mod evaluate;
 pub mod kind;

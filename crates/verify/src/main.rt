@@ -1,4 +1,6 @@
 // The bench check: at which input words does a written setting differ from the specification?
+#![tactic(auto)]
+
 ghost use Rattle.circuit.specs.View.{drawn};
 ghost use Rattle.verify.specs.Count.{Counted};
 

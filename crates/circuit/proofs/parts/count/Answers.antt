@@ -5,8 +5,8 @@ use Rattle.circuit.specs.Gates.{count_kind}
 use Rattle.circuit.proofs.Rows.{one_at_most, count_more}
 use Rattle.circuit.proofs.parts.count.Goals as goal
 
-pub overflow-add-total : goal.overflow-add-total
-overflow-add-total c = let one = one_at_most c.letter.result c.letter-in-loop-gate.result in omega (arith, c.loop-gate.invariant.1)
+pub overflow_add-total : goal.overflow_add-total
+overflow_add-total c = let one = one_at_most c.letter.result c.letter-in-loop-gate.result in omega (arith, c.loop-gate.invariant.1)
 
 pub loop-gate-preserved : goal.loop-gate-preserved
 loop-gate-preserved c =

@@ -4,8 +4,8 @@ use Rattle.circuit.specs.Gates.{total_rows}
 use Rattle.circuit.proofs.Rows.{rows_more}
 use Rattle.circuit.proofs.parts.sum_of_rows.Goals as goal
 
-pub overflow-add-total : goal.overflow-add-total
-overflow-add-total c = let one = rows_more c.args.gates.now c.loop-gate.gate-index _ _ c.loop-gate-test.true c.rows-total.ensures in omega arith
+pub overflow_add-total : goal.overflow_add-total
+overflow_add-total c = let one = rows_more c.args.gates.now c.loop-gate.gate-index _ _ c.loop-gate-test.true c.rows-total.ensures in omega arith
 
 pub loop-gate-preserved : goal.loop-gate-preserved
 loop-gate-preserved c = let one = rows_more c.args.gates.now c.loop-gate.gate-index _ _ c.loop-gate-test.true c.rows-total.ensures in omega arith

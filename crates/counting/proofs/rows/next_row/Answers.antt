@@ -6,11 +6,11 @@ use Rattle.counting.proofs.rows.next_row.Goals as goal
 
 pub returns : goal.returns
 returns c =
-    let lent = c.deref-mut.result.now in
-    let part : take (c.args.n - 0) lent ≡ take c.args.n (vec_items c.args.values.now) = ap (λ k. take k lent) (sub-zero c.args.n) ∙ ap (take c.args.n) c.deref-mut.ensures.value in
+    let lent = c.deref_mut.result.now in
+    let part : take (c.args.n - 0) lent ≡ take c.args.n (vec_items c.args.values.now) = ap (λ k. take k lent) (sub-zero c.args.n) ∙ ap (take c.args.n) c.deref_mut.ensures.value in
     record {
-      answer = c.count-up.ensures.answer ∙ ap some_false part;
-      after = front_written c.args.n c.args.values.now.len c.count-up.new.row lent c.args.values.now.items c.count-up.auto.row c.requires c.deref-mut.ensures.len
-          ∙ c.count-up.ensures.after ∙ ap next part;
+      answer = c.count_up.ensures.answer ∙ ap some_false part;
+      after = front_written c.args.n c.args.values.now.len c.count_up.new.row lent c.args.values.now.items c.count_up.auto.row c.requires c.deref_mut.ensures.len
+          ∙ c.count_up.ensures.after ∙ ap next part;
       len = refl;
     }

@@ -8,7 +8,7 @@ returns c =
     let clause = c.args.clause.now in
     let words = c.args.words.now in
     record {
-      after = place_written c.args.used words.len _ words.items c.deref-mut.result.now _ c.copy-from-slice.new.self clause (head (length clause)) c.requires c.deref-mut.ensures.len
-          c.deref-mut.ensures.value c.copy-from-slice.ensures.after c.copy-from-slice.ensures.len;
+      after = place_written c.args.used words.len _ words.items c.deref_mut.result.now _ c.copy_from_slice.new.self clause (head (length clause)) c.requires c.deref_mut.ensures.len
+          c.deref_mut.ensures.value c.copy_from_slice.ensures.after c.copy_from_slice.ensures.len;
       len = refl;
     }

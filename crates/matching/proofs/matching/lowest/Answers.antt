@@ -20,7 +20,7 @@ returns-else-found-end c w low high =
 pub loop-word-preserved : goal.loop-word-preserved
 loop-word-preserved c = (
   omega arith,
-  λ w low high. elim (cases_lt w c.loop-word.word) [ inl h ↦ c.loop-word.invariant.1 w low h | inr h ↦ c.in-default.ensures w h (omega arith) ],
+  λ w low high. elim (cases_lt w c.loop-word.word) [ inl h ↦ c.loop-word.invariant.1 w low h | inr h ↦ c.in_default.ensures w h (omega arith) ],
 )
 
 pub returns : goal.returns

@@ -11,4 +11,4 @@ returns-then-lanes-eq0 c =
 pub returns-else-lanes-eq0 : goal.returns-else-lanes-eq0
 returns-else-lanes-eq0 c =
     lowest_in_block (Matches (drawn c.args.pair.now.target) (drawn c.args.pair.now.specification) c.args.setting) c.args.from c.differing.result c.differing.ensures c.from.result
-    c.differing.type-inv c.if-lanes-eq0.false c.from.ensures
+    c.differing.type_inv c.if-lanes-eq0.false c.from.ensures

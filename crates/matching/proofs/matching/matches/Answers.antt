@@ -15,5 +15,5 @@ returns c =
     let s = drawn c.args.pair.now.specification in
     let within = sym (c.fits-2.ensures ∙ ap (λ m. ltb c.args.setting (2 ^ m)) c.rows.ensures) ∙ c.if-not-fits-2.false in (
       cond-true _ _ _ (sym c.alike.ensures ∙ c.if-not-alike.false) ∙ cond-true _ _ _ (sym c.fits.ensures ∙ c.if-not-fits.false) ∙ cond-true _ _ _ within,
-      Decides-at _ _ (ap not c.bit-of.ensures) (subst (λ w. Decides (not (bit c.differing.result lane)) (Matches t s c.args.setting w)) place (c.differing.ensures lane (omega arith))),
+      Decides-at _ _ (ap not c.bit_of.ensures) (subst (λ w. Decides (not (bit c.differing.result lane)) (Matches t s c.args.setting w)) place (c.differing.ensures lane (omega arith))),
     )

@@ -6,15 +6,15 @@ use Rattle.matching.specs.Blocks.{net_bit}
 use Rattle.matching.proofs.Compare.{unequal_more}
 use Rattle.matching.proofs.matching.unequal.Goals as goal
 
-pub net-lanes-requires : goal.net-lanes-requires
-net-lanes-requires c =
+pub net_lanes-requires : goal.net_lanes-requires
+net_lanes-requires c =
     let i = c.loop-i.i in
     let h = c.requires.left i in
     let e = get_or_default c.args.a.now i 1 0 c.loop-i-test.true in
     (omega arith, omega arith)
 
-pub net-lanes-requires-in-loop-i : goal.net-lanes-requires-in-loop-i
-net-lanes-requires-in-loop-i c =
+pub net_lanes-requires-in-loop-i : goal.net_lanes-requires-in-loop-i
+net_lanes-requires-in-loop-i c =
     let i = c.loop-i.i in
     let h = c.requires.right i in
     let lt : i < length c.args.b.now = omega arith in
@@ -23,8 +23,8 @@ net-lanes-requires-in-loop-i c =
 
 pub loop-i-preserved : goal.loop-i-preserved
 loop-i-preserved c j =
-    unequal_more c.args.t.now c.args.s.now c.args.a.now c.args.b.now c.loop-i.i c.loop-i.lanes c.net-lanes.result c.net-lanes-in-loop-i.result
-    c.loop-i-test.true (omega arith) c.net-lanes.ensures c.net-lanes-in-loop-i.ensures j (c.loop-i.invariant j)
+    unequal_more c.args.t.now c.args.s.now c.args.a.now c.args.b.now c.loop-i.i c.loop-i.lanes c.net_lanes.result c.net_lanes-in-loop-i.result
+    c.loop-i-test.true (omega arith) c.net_lanes.ensures c.net_lanes-in-loop-i.ensures j (c.loop-i.invariant j)
 
 pub returns : goal.returns
 returns c j =

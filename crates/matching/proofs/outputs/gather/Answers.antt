@@ -19,8 +19,8 @@ loop-i-init c =
     let none = drop_all (length xs) xs (omega arith) in
     (sym (ap (λ ys. as_number (map (net_bit c.args.nets.now c.args.j) ys)) none), pow_pos (length xs - length xs))
 
-pub net-lanes-requires : goal.net-lanes-requires
-net-lanes-requires c =
+pub net_lanes-requires : goal.net_lanes-requires
+net_lanes-requires c =
     let p = c.loop-i.i - 1 in
     let h = c.requires.driven p in
     let lt : p < length c.args.outputs.now = omega arith in
@@ -29,5 +29,5 @@ net-lanes-requires c =
 
 pub loop-i-preserved : goal.loop-i-preserved
 loop-i-preserved c =
-    number_more (net_bit c.args.nets.now c.args.j) c.args.outputs.now c.loop-i.i c.loop-i.number c.from.result c.bit-of.result
-    (omega arith) (omega arith) c.loop-i.invariant.0 c.loop-i.invariant.1 (c.bit-of.ensures ∙ ap (λ x. bit x c.args.j) c.net-lanes.ensures) (c.from.ensures ∙ byte_is c.bit-of.result)
+    number_more (net_bit c.args.nets.now c.args.j) c.args.outputs.now c.loop-i.i c.loop-i.number c.from.result c.bit_of.result
+    (omega arith) (omega arith) c.loop-i.invariant.0 c.loop-i.invariant.1 (c.bit_of.ensures ∙ ap (λ x. bit x c.args.j) c.net_lanes.ensures) (c.from.ensures ∙ byte_is c.bit_of.result)

@@ -17,7 +17,7 @@ returns c =
     let nets = c.run.new.nets in
     let place : 64 * (word / 64) + word % 64 ≡ word = omega arith in
     let within = sym (c.fits-2.ensures ∙ ap (λ m. ltb setting (2 ^ m)) c.rows.ensures) ∙ c.if-not-fits-2.false in
-    let shown = ap (map (net_bit nets (word % 64))) c.as-slice.ensures.value ∙ outputs_held s setting (word / 64) nets circuit.driven c.run.ensures (word % 64) (omega arith) ∙ ap (outputs_at s setting) place in (
+    let shown = ap (map (net_bit nets (word % 64))) c.as_slice.ensures.value ∙ outputs_held s setting (word / 64) nets circuit.driven c.run.ensures (word % 64) (omega arith) ∙ ap (outputs_at s setting) place in (
       cond-true _ _ _ (sym c.fits.ensures ∙ c.if-not-fits.false) ∙ cond-true _ _ _ within,
       c.gather.ensures ∙ ap as_number shown,
     )

@@ -6,5 +6,5 @@ use Rattle.propagating.proofs.memory.choose.Goals as goal
 
 pub returns-in-None : goal.returns-in-None
 returns-in-None c =
-    chosen (values_of c.args.slots.now) (length c.args.slots.now) c.min-middle.result c.first-open-in-None.result
-    (sym (length-map c.args.slots.now (λ s. s.value))) (omega (arith, c.min-middle.ensures)) c.in-None.ensures c.first-open-in-None.ensures
+    chosen (values_of c.args.slots.now) (length c.args.slots.now) c.min-middle.result c.first_open-in-None.result
+    (sym (length-map c.args.slots.now (λ s. s.value))) (omega (arith, c.min-middle.ensures)) c.in-None.ensures c.first_open-in-None.ensures

@@ -1,7 +1,6 @@
-use Rattle.std.proofs.Common.{◌≡◌, ◌+◌, length, take, drop, set, sym, refl, ap, ◌∙◌, subst, arith, length-set}
+use Rattle.std.proofs.Common.{◌+◌, length, drop, refl, ap, ◌∙◌, arith, length-set}
 use Rattle.clause.specs.Logic.{some_outside}
 use Rattle.clause.proofs.Inside.{inside_at}
-use Rattle.trail.specs.Cells.{literals_of, heads_of}
 use Rattle.trail.proofs.Stores.{store_literal, store_head, store_literals, store_heads}
 use Rattle.propagating.proofs.memory.store.Goals as goal
 

@@ -1,6 +1,5 @@
-use Rattle.std.proofs.Common.{◌≡◌, ◌+◌, false, ◌∷◌, ◌++◌, length, take, drop, replicate}
+use Rattle.std.proofs.Common.{◌≡◌, ◌+◌, false, ◌++◌, length, take, drop, replicate}
 use Rattle.clause.specs.Logic.{some_outside}
-use Rattle.clause.specs.Memory.{head}
 use Rattle.trail.specs.Cells.{literals_of, heads_of}
 use Rattle.propagating.proofs.memory.store.Given as goal
 

@@ -1,12 +1,12 @@
 -- From the end of the trail to its beginning, until a decision.
-use Rattle.std.proofs.Common.{◌≡◌, ◌-◌, length, sym, refl, ap, ◌∙◌, arith}
+use Rattle.std.proofs.Common.{length, sym, ap, ◌∙◌, arith}
 use lib.ListN.{length-map}
-use Rattle.trail.specs.Cells.{values_of, entries_of}
-use Rattle.trail.proofs.Memory.{TakenOff, taken_off, forced_more, zero_slot}
+use Rattle.trail.specs.Cells.{entries_of}
+use Rattle.trail.proofs.Memory.{taken_off, forced_more}
 use Rattle.propagating.proofs.memory.undo.Goals as goal
 
-pub set-value-requires : goal.set-value-requires
-set-value-requires c =
+pub set_value-requires : goal.set_value-requires
+set_value-requires c =
     let es = entries_of c.args.slots.now in
     let inv = c.loop-i.invariant in
     let t = taken_off (length c.args.slots.now) c.args.trail c.loop-i.i c.loop-i.slots es c.loop-i.auto.slots (length-map c.args.slots.now (λ s. s.entry)) c.requires.short c.loop-i.auto.i c.loop-i-test.true c.requires.fresh inv.0 inv.1 in
@@ -18,12 +18,12 @@ returns-then-entry c =
     let inv = c.loop-i.invariant in
     let t = taken_off (length c.args.slots.now) c.args.trail c.loop-i.i c.loop-i.slots es c.loop-i.auto.slots (length-map c.args.slots.now (λ s. s.entry)) c.requires.short c.loop-i.auto.i c.loop-i-test.true c.requires.fresh inv.0 inv.1 in
     record {
-      entries = c.set-value.ensures.entries ∙ inv.0;
+      entries = c.set_value.ensures.entries ∙ inv.0;
       back = record {
         below = omega (arith, c.loop-i.auto.i, c.loop-i-test.true);
         decided = sym (ap (λ e. e.decided) t.is) ∙ c.if-entry.true;
         forced = λ j lo hi. inv.2 j (omega arith) hi;
-        written = c.set-value.ensures.values ∙ t.next;
+        written = c.set_value.ensures.values ∙ t.next;
       };
     }
 
@@ -32,4 +32,4 @@ loop-i-preserved c =
     let es = entries_of c.args.slots.now in
     let inv = c.loop-i.invariant in
     let t = taken_off (length c.args.slots.now) c.args.trail c.loop-i.i c.loop-i.slots es c.loop-i.auto.slots (length-map c.args.slots.now (λ s. s.entry)) c.requires.short c.loop-i.auto.i c.loop-i-test.true c.requires.fresh inv.0 inv.1 in
-    (c.set-value.ensures.entries ∙ inv.0, c.set-value.ensures.values ∙ t.next, forced_more es c.args.trail c.loop-i.i c.loop-i-test.true (sym (ap (λ e. e.decided) t.is) ∙ c.if-entry.false) inv.2)
+    (c.set_value.ensures.entries ∙ inv.0, c.set_value.ensures.values ∙ t.next, forced_more es c.args.trail c.loop-i.i c.loop-i-test.true (sym (ap (λ e. e.decided) t.is) ∙ c.if-entry.false) inv.2)

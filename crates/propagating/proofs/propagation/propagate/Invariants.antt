@@ -1,4 +1,4 @@
-use Rattle.std.proofs.Common.{◌-◌, ◌≤◌, false, length}
+use Rattle.std.proofs.Common.{◌-◌, false, length}
 use Rattle.propagating.specs.Parts.{Goes}
 use Rattle.propagating.proofs.propagation.propagate.Given as goal
 

@@ -1,4 +1,4 @@
-use Rattle.std.proofs.Common.{◌≡◌, false, length, sym, subst, arith, rules}
+use Rattle.std.proofs.Common.{false, length, sym, subst, rules}
 use Rattle.clause.specs.Memory.{Begins}
 use Rattle.trail.specs.Cells.{values_of, entries_of, literals_of, formula}
 use Rattle.trail.specs.Standing.{Standing, Onward}
@@ -16,8 +16,8 @@ consider-requires c =
       begins = subst (λ v. Begins v (literals_of ws) (formula ws) c.loop-head.head) (sym c.loop-head.auto.slots) (begins_here (length c.args.slots.now) ws c.loop-head.head r.0 c.loop-head-test.true r.1 r.2 r.3);
     }
 
-pub overflow-add-head-in-loop-head : goal.overflow-add-head-in-loop-head
-overflow-add-head-in-loop-head c =
+pub overflow_add-head-in-loop-head : goal.overflow_add-head-in-loop-head
+overflow_add-head-in-loop-head c =
     let v = length c.args.slots.now in
     let r = c.loop-head.invariant.1 in
     let t = there v c.args.words.now c.loop-head.head (begins_here v c.args.words.now c.loop-head.head r.0 c.loop-head-test.true r.1 r.2 r.3) in

@@ -1,5 +1,5 @@
 -- Propagation keeps the search standing; then a conflict goes back, an open variable is decided, or the row of a full trail is judged.
-use Rattle.std.proofs.Common.{◌≡◌, length, take, sym, refl, ap, ◌∙◌, subst, arith}
+use Rattle.std.proofs.Common.{length, take, sym, refl, arith}
 use Rattle.trail.specs.Cells.{values_of, entries_of, formula}
 use Rattle.trail.specs.Debt.{debt}
 use Rattle.trail.proofs.Verdicts.{solved, full_refuted}
@@ -12,8 +12,8 @@ returns-then-propagate c =
     let ss = c.propagate.new.slots in
     let o = c.if-propagate.ensures in
     retreated v (length ss) (formula c.args.words.now) (debt v (take c.args.progress.now.trail (entries_of c.args.slots.now))) c.propagate.new.progress.trail (values_of ss) (entries_of ss)
-    c.reverse.new.progress.trail (values_of c.reverse.new.slots) (entries_of c.reverse.new.slots) c.reverse.result c.after-conflict.result c.propagate.auto.slots
-    o.standing (o.refuted refl) o.owes c.reverse.ensures c.after-conflict.ensures
+    c.reverse.new.progress.trail (values_of c.reverse.new.slots) (entries_of c.reverse.new.slots) c.reverse.result c.after_conflict.result c.propagate.auto.slots
+    o.standing (o.refuted refl) o.owes c.reverse.ensures c.after_conflict.ensures
 
 pub decide-requires : goal.decide-requires
 decide-requires c =
@@ -32,17 +32,17 @@ returns-in-Some c =
     decided v (formula c.args.words.now) _ c.propagate.new.progress.trail (values_of ss) (entries_of ss) c.in-Some.slot c.decide.new.progress.trail (values_of c.decide.new.slots) (entries_of c.decide.new.slots)
     o.standing (omega (arith, found.0, c.propagate.auto.slots)) found.1 o.owes c.decide.ensures.trail c.decide.ensures.values c.decide.ensures.entries
 
-pub returns-then-all-hold : goal.returns-then-all-hold
-returns-then-all-hold c =
+pub returns-then-all_hold : goal.returns-then-all_hold
+returns-then-all_hold c =
     let ss = c.propagate.new.slots in
-    solved (length c.args.slots.now) (formula c.args.words.now) c.propagate.new.progress.trail (values_of ss) (entries_of ss) c.if-propagate.ensures.standing (sym c.if-all-hold.ensures)
+    solved (length c.args.slots.now) (formula c.args.words.now) c.propagate.new.progress.trail (values_of ss) (entries_of ss) c.if-propagate.ensures.standing (sym c.if-all_hold.ensures)
 
 pub returns : goal.returns
 returns c =
     let v = length c.args.slots.now in
     let ss = c.propagate.new.slots in
     let o = c.if-propagate.ensures in
-    let r = full_refuted v (formula c.args.words.now) c.propagate.new.progress.trail (values_of ss) (entries_of ss) o.standing c.in-default.ensures (sym c.if-all-hold.ensures) in
+    let r = full_refuted v (formula c.args.words.now) c.propagate.new.progress.trail (values_of ss) (entries_of ss) o.standing c.in_default.ensures (sym c.if-all_hold.ensures) in
     retreated v (length ss) (formula c.args.words.now) (debt v (take c.args.progress.now.trail (entries_of c.args.slots.now))) c.propagate.new.progress.trail (values_of ss) (entries_of ss)
-    c.reverse-2.new.progress.trail (values_of c.reverse-2.new.slots) (entries_of c.reverse-2.new.slots) c.reverse-2.result c.after-conflict-2.result c.propagate.auto.slots
-    o.standing r o.owes c.reverse-2.ensures c.after-conflict-2.ensures
+    c.reverse-2.new.progress.trail (values_of c.reverse-2.new.slots) (entries_of c.reverse-2.new.slots) c.reverse-2.result c.after_conflict-2.result c.propagate.auto.slots
+    o.standing r o.owes c.reverse-2.ensures c.after_conflict-2.ensures

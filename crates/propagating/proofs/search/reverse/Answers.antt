@@ -1,8 +1,8 @@
-use Rattle.std.proofs.Common.{◌≡◌, ◌+◌, false, length, set, sym, refl, ap, ◌∙◌, subst, arith}
+use Rattle.std.proofs.Common.{◌≡◌, false, length, set, refl, ap, ◌∙◌, arith}
 use lib.ListN.{length-map}
 use Rattle.clause.specs.Logic.{negation}
 use Rattle.clause.proofs.Inside.{within}
-use Rattle.trail.specs.Cells.{values_of, entries_of}
+use Rattle.trail.specs.Cells.{entries_of}
 use Rattle.trail.specs.Values.{assign}
 use Rattle.trail.specs.Trail.{literal_at}
 use Rattle.trail.proofs.Memory.{entry_read}

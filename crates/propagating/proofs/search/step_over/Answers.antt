@@ -1,4 +1,4 @@
-use Rattle.std.proofs.Common.{◌≡◌, true, false, cond, length, take, sym, refl, ap, ◌∙◌, subst, arith, length-take}
+use Rattle.std.proofs.Common.{◌≡◌, true, false, length, take, sym, ◌∙◌, subst, arith, length-take}
 use Rattle.clause.proofs.Vectors.{first_part}
 use Rattle.trail.specs.Standing.{Loaded}
 use Rattle.propagating.specs.Parts.{Stood}

@@ -1,4 +1,4 @@
-use Rattle.std.proofs.Common.{◌≡◌, sym, arith}
+use Rattle.std.proofs.Common.{arith}
 use Rattle.std.proofs.lemmas.List.{length-append}
 use Rattle.circuit.specs.View.{drawn}
 use Rattle.sheet_format.specs.Rows.{rows}
@@ -8,4 +8,4 @@ pub returns : goal.returns
 returns c =
     let p = c.args.pair.now in
     let e = length-append (rows (drawn p.target)) (rows (drawn p.specification)) in
-    omega (arith, c.sheet-length.ensures.value, c.sheet-length-2.ensures.value)
+    omega (arith, c.sheet_length.ensures.value, c.sheet_length-2.ensures.value)

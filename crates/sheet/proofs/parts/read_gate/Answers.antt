@@ -1,4 +1,4 @@
-use Rattle.std.proofs.Common.{◌≡◌, ◌+◌, Some, None, sym, ap, ◌∙◌, arith}
+use Rattle.std.proofs.Common.{Some, None, sym, ap, ◌∙◌, arith}
 use Rattle.std.proofs.lemmas.Result.{err_from_is_err_and}
 use Rattle.circuit.specs.Gates.{own_rows}
 use Rattle.sheet_format.specs.FirstFault.{names_gate}
@@ -6,56 +6,56 @@ use Rattle.sheet.proofs.Fields.{no_feed, no_letter, in_fields, too_many, few_eno
 use Rattle.sheet.proofs.Texts.{fields_length}
 use Rattle.sheet.proofs.parts.read_gate.Goals as goal
 
-pub returns-in-err-letter : goal.returns-in-err-letter
-returns-in-err-letter c =
-    let p = err_from_is_err_and c.from-residual.result c.from-residual.ensures.1 in
-    let h = c.in-err-letter.ensures in
-    rw (p.1, p.2) (in_fields c.args.role c.args.own_val c.args.before c.args.row.now _ (no_feed _ _ c.args.row.now h.1) ∙ ap Some (sym h.0))
+pub returns-in_err-letter : goal.returns-in_err-letter
+returns-in_err-letter c =
+    let p = err_from_is_err_and c.from_residual.result c.from_residual.ensures.1 in
+    let h = c.in_err-letter.ensures in
+    rw (p.1, p.2) (in_fields c.args.role c.args.own c.args.before c.args.row.now _ (no_feed _ _ c.args.row.now h.1) ∙ ap Some (sym h.0))
 
-pub returns-in-err-kind : goal.returns-in-err-kind
-returns-in-err-kind c =
-    let p = err_from_is_err_and c.from-residual-in-err-kind.result c.from-residual-in-err-kind.ensures.1 in
-    let h = c.in-ok-letter.ensures in
-    let k = c.in-err-kind.ensures in
+pub returns-in_err-kind : goal.returns-in_err-kind
+returns-in_err-kind c =
+    let p = err_from_is_err_and c.from_residual-in_err-kind.result c.from_residual-in_err-kind.ensures.1 in
+    let h = c.in_ok-letter.ensures in
+    let k = c.in_err-kind.ensures in
     rw (p.1, p.2)
-    (in_fields c.args.role c.args.own_val c.args.before c.args.row.now _ (no_letter _ _ c.args.row.now h.0 (ap (names_gate c.args.role) (sym h.1) ∙ k.0))
+    (in_fields c.args.role c.args.own c.args.before c.args.row.now _ (no_letter _ _ c.args.row.now h.0 (ap (names_gate c.args.role) (sym h.1) ∙ k.0))
     ∙ ap Some (sym k.1))
 
-pub read-fields-requires : goal.read-fields-requires
-read-fields-requires c = fields_length c.args.row.now _ c.requires.0 c.in-ok-letter.ensures.2
+pub read_fields-requires : goal.read_fields-requires
+read_fields-requires c = fields_length c.args.row.now _ c.requires.0 c.in_ok-letter.ensures.2
 
-pub returns-in-err-fields : goal.returns-in-err-fields
-returns-in-err-fields c =
-    let p = err_from_is_err_and c.from-residual-in-err-fields.result c.from-residual-in-err-fields.ensures.1 in
-    let h = c.in-ok-letter.ensures in
-    let k = c.in-ok-kind.ensures in
+pub returns-in_err-fields : goal.returns-in_err-fields
+returns-in_err-fields c =
+    let p = err_from_is_err_and c.from_residual-in_err-fields.result c.from_residual-in_err-fields.ensures.1 in
+    let h = c.in_ok-letter.ensures in
+    let k = c.in_ok-kind.ensures in
     rw (p.1, p.2)
-    (in_fields c.args.role c.args.own_val c.args.before c.args.row.now _
-    (fields_found c.args.role c.args.own_val c.args.before c.args.row.now _ c.shape-of-gate.result c.in-ok-kind.kind _ h.0 h.1 h.2 k.0 k.1
-    c.shape-of-gate.ensures _ c.in-err-fields.ensures))
+    (in_fields c.args.role c.args.own c.args.before c.args.row.now _
+    (fields_found c.args.role c.args.own c.args.before c.args.row.now _ c.shape_of_gate.result c.in_ok-kind.kind _ h.0 h.1 h.2 k.0 k.1
+    c.shape_of_gate.ensures _ c.in_err-fields.ensures))
 
 pub returns-then-before-rows-gt64 : goal.returns-then-before-rows-gt64
 returns-then-before-rows-gt64 c =
-    let h = c.in-ok-letter.ensures in
-    let k = c.in-ok-kind.ensures in
-    let v = c.in-ok-fields.ensures in
+    let h = c.in_ok-letter.ensures in
+    let k = c.in_ok-kind.ensures in
+    let v = c.in_ok-fields.ensures in
     let row = c.args.row.now in
-    let none = fields_found c.args.role c.args.own_val c.args.before row _ c.shape-of-gate.result c.in-ok-kind.kind _ h.0 h.1 h.2 k.0 k.1
-    c.shape-of-gate.ensures None v.0 in
-    let gate = gate_is c.args.role c.args.own_val c.args.before row _ c.shape-of-gate.result c.in-ok-kind.kind _ h.0 h.1 h.2 k.0 k.1
-    c.shape-of-gate.ensures c.in-ok-fields.fields c.gate-of-gate.result v.1 c.gate-of-gate.ensures in
+    let none = fields_found c.args.role c.args.own c.args.before row _ c.shape_of_gate.result c.in_ok-kind.kind _ h.0 h.1 h.2 k.0 k.1
+    c.shape_of_gate.ensures None v.0 in
+    let gate = gate_is c.args.role c.args.own c.args.before row _ c.shape_of_gate.result c.in_ok-kind.kind _ h.0 h.1 h.2 k.0 k.1
+    c.shape_of_gate.ensures c.in_ok-fields.fields c.gate_of-gate.result v.1 c.gate_of-gate.ensures in
     let rows = c.rows.ensures ∙ ap own_rows gate in
-    too_many c.args.role c.args.own_val c.args.before row none (omega arith) ∙ ap Some (sym c.at.ensures)
+    too_many c.args.role c.args.own c.args.before row none (omega arith) ∙ ap Some (sym c.at.ensures)
 
 pub returns : goal.returns
 returns c =
-    let h = c.in-ok-letter.ensures in
-    let k = c.in-ok-kind.ensures in
-    let v = c.in-ok-fields.ensures in
+    let h = c.in_ok-letter.ensures in
+    let k = c.in_ok-kind.ensures in
+    let v = c.in_ok-fields.ensures in
     let row = c.args.row.now in
-    let none = fields_found c.args.role c.args.own_val c.args.before row _ c.shape-of-gate.result c.in-ok-kind.kind _ h.0 h.1 h.2 k.0 k.1
-    c.shape-of-gate.ensures None v.0 in
-    let gate = gate_is c.args.role c.args.own_val c.args.before row _ c.shape-of-gate.result c.in-ok-kind.kind _ h.0 h.1 h.2 k.0 k.1
-    c.shape-of-gate.ensures c.in-ok-fields.fields c.gate-of-gate.result v.1 c.gate-of-gate.ensures in
+    let none = fields_found c.args.role c.args.own c.args.before row _ c.shape_of_gate.result c.in_ok-kind.kind _ h.0 h.1 h.2 k.0 k.1
+    c.shape_of_gate.ensures None v.0 in
+    let gate = gate_is c.args.role c.args.own c.args.before row _ c.shape_of_gate.result c.in_ok-kind.kind _ h.0 h.1 h.2 k.0 k.1
+    c.shape_of_gate.ensures c.in_ok-fields.fields c.gate_of-gate.result v.1 c.gate_of-gate.ensures in
     let rows = c.rows.ensures ∙ ap own_rows gate in
-    (few_enough c.args.role c.args.own_val c.args.before row none (omega arith), gate, omega arith)
+    (few_enough c.args.role c.args.own c.args.before row none (omega arith), gate, omega arith)

@@ -1,59 +1,58 @@
 -- A fault of either sheet is the pair's first fault; without one, the specification is what stands right after the target.
-use Rattle.std.proofs.Common.{◌≡◌, ◌≤◌, length, Some, None, sym, refl, ap, ◌∙◌, subst, arith}
+use Rattle.std.proofs.Common.{◌≤◌, length, Some, sym, refl, ap, ◌∙◌}
 use Rattle.std.proofs.lemmas.Result.{err_from_is_err_and}
 use Rattle.refusal.specs.Faults.{moved_to_sheet}
 use Rattle.refusal.proofs.Mapped.{placed_ok, placed_err}
-use Rattle.circuit.specs.View.{drawn}
 use Rattle.sheet_format.specs.declared.role.Role.TheVariants.{Specification}
 use Rattle.sheet_format.specs.Decoding.{sheet_in}
-use Rattle.sheet_format.specs.FirstFault.{sheet_fault, after_target}
+use Rattle.sheet_format.specs.FirstFault.{sheet_fault}
 use Rattle.sheet.proofs.Sheets.{target_within, after_is, in_target, in_specification, in_neither, pair_is, pair_refused}
 use Rattle.sheet.proofs.read.read_pair.Goals as goal
 
-pub returns-in-err-target : goal.returns-in-err-target
-returns-in-err-target c =
-    let p = err_from_is_err_and c.from-residual.result c.from-residual.ensures.1 in
+pub returns-in_err-target : goal.returns-in_err-target
+returns-in_err-target c =
+    let p = err_from_is_err_and c.from_residual.result c.from_residual.ensures.1 in
     let t = c.args.bytes.now in
-    let q = placed_err (moved_to_sheet 1) _ _ _ _ _ c.in-sheet.ensures c.in-err-target.was c.read-part.ensures in
+    let q = placed_err (moved_to_sheet 1) _ _ _ _ _ c.in_sheet.ensures c.in_err-target.was c.read_part.ensures in
     let e = in_target t q.0 q.1 ∙ ap Some (sym q.2) in
     rw (p.1, p.2) (e, pair_refused t _ e)
 
-pub slice-bounds-read-part-count : goal.slice-bounds-read-part-count
-slice-bounds-read-part-count c =
-    let a = placed_ok (moved_to_sheet 1) _ _ _ _ _ c.in-sheet.ensures c.in-ok-target.was c.read-part.ensures in
-    rw c.sheet-length-start.ensures.value (target_within c.args.bytes.now c.in-ok-target.target a.0 a.1)
+pub slice_bounds-read_part-count : goal.slice_bounds-read_part-count
+slice_bounds-read_part-count c =
+    let a = placed_ok (moved_to_sheet 1) _ _ _ _ _ c.in_sheet.ensures c.in_ok-target.was c.read_part.ensures in
+    rw c.sheet_length-start.ensures.value (target_within c.args.bytes.now c.in_ok-target.target a.0 a.1)
 
-pub slice-bounds-read-part-start : goal.slice-bounds-read-part-start
-slice-bounds-read-part-start c =
-    let a = placed_ok (moved_to_sheet 1) _ _ _ _ _ c.in-sheet.ensures c.in-ok-target.was c.read-part.ensures in
-    let h : c.sheet-length-start.result ≤ length c.args.bytes.now =
-    rw c.sheet-length-start.ensures.value (target_within c.args.bytes.now c.in-ok-target.target a.0 a.1) in
+pub slice_bounds-read_part-start : goal.slice_bounds-read_part-start
+slice_bounds-read_part-start c =
+    let a = placed_ok (moved_to_sheet 1) _ _ _ _ _ c.in_sheet.ensures c.in_ok-target.was c.read_part.ensures in
+    let h : c.sheet_length-start.result ≤ length c.args.bytes.now =
+    rw c.sheet_length-start.ensures.value (target_within c.args.bytes.now c.in_ok-target.target a.0 a.1) in
     h
 
-pub returns-in-err-specification : goal.returns-in-err-specification
-returns-in-err-specification c =
-    let p = err_from_is_err_and c.from-residual-in-err-specification.result c.from-residual-in-err-specification.ensures.1 in
+pub returns-in_err-specification : goal.returns-in_err-specification
+returns-in_err-specification c =
+    let p = err_from_is_err_and c.from_residual-in_err-specification.result c.from_residual-in_err-specification.ensures.1 in
     let t = c.args.bytes.now in
-    let a = placed_ok (moved_to_sheet 1) _ _ _ _ _ c.in-sheet.ensures c.in-ok-target.was c.read-part.ensures in
-    let w = after_is t c.in-ok-target.target a.0 a.1 _ c.sheet-length-start.result c.sheet-length-start.ensures.value refl in
-    let q = placed_err (moved_to_sheet 2) _ _ _ _ _ c.in-sheet-2.ensures c.in-err-specification.was c.read-part-2.ensures in
-    let e = in_specification t c.in-ok-target.target a.0 a.1 q.0 (ap (sheet_fault Specification) (sym w) ∙ q.1) ∙ ap Some (sym q.2) in
+    let a = placed_ok (moved_to_sheet 1) _ _ _ _ _ c.in_sheet.ensures c.in_ok-target.was c.read_part.ensures in
+    let w = after_is t c.in_ok-target.target a.0 a.1 _ c.sheet_length-start.result c.sheet_length-start.ensures.value refl in
+    let q = placed_err (moved_to_sheet 2) _ _ _ _ _ c.in_sheet-2.ensures c.in_err-specification.was c.read_part-2.ensures in
+    let e = in_specification t c.in_ok-target.target a.0 a.1 q.0 (ap (sheet_fault Specification) (sym w) ∙ q.1) ∙ ap Some (sym q.2) in
     rw (p.1, p.2) (e, pair_refused t _ e)
 
-pub invariant-of-result : goal.invariant-of-result
-invariant-of-result c =
+pub invariant_of-result : goal.invariant_of-result
+invariant_of-result c =
     let t = c.args.bytes.now in
-    let a = placed_ok (moved_to_sheet 1) _ _ _ _ _ c.in-sheet.ensures c.in-ok-target.was c.read-part.ensures in
-    let b = placed_ok (moved_to_sheet 2) _ _ _ _ _ c.in-sheet-2.ensures c.in-ok-specification.was c.read-part-2.ensures in
-    let w = after_is t c.in-ok-target.target a.0 a.1 _ c.sheet-length-start.result c.sheet-length-start.ensures.value refl in
-    ((pair_is t c.in-ok-target.target a.0 a.1 c.in-ok-specification.specification (ap (sheet_fault Specification) (sym w) ∙ b.0) (b.1 ∙ ap sheet_in w)).specification_plain, tt)
+    let a = placed_ok (moved_to_sheet 1) _ _ _ _ _ c.in_sheet.ensures c.in_ok-target.was c.read_part.ensures in
+    let b = placed_ok (moved_to_sheet 2) _ _ _ _ _ c.in_sheet-2.ensures c.in_ok-specification.was c.read_part-2.ensures in
+    let w = after_is t c.in_ok-target.target a.0 a.1 _ c.sheet_length-start.result c.sheet_length-start.ensures.value refl in
+    record { plain = (pair_is t c.in_ok-target.target a.0 a.1 c.in_ok-specification.specification (ap (sheet_fault Specification) (sym w) ∙ b.0) (b.1 ∙ ap sheet_in w)).specification_plain }
 
 pub returns : goal.returns
 returns c =
     let t = c.args.bytes.now in
-    let a = placed_ok (moved_to_sheet 1) _ _ _ _ _ c.in-sheet.ensures c.in-ok-target.was c.read-part.ensures in
-    let b = placed_ok (moved_to_sheet 2) _ _ _ _ _ c.in-sheet-2.ensures c.in-ok-specification.was c.read-part-2.ensures in
-    let w = after_is t c.in-ok-target.target a.0 a.1 _ c.sheet-length-start.result c.sheet-length-start.ensures.value refl in (
-      in_neither t c.in-ok-target.target a.0 a.1 c.in-ok-specification.specification (ap (sheet_fault Specification) (sym w) ∙ b.0) (b.1 ∙ ap sheet_in w),
-      pair_is t c.in-ok-target.target a.0 a.1 c.in-ok-specification.specification (ap (sheet_fault Specification) (sym w) ∙ b.0) (b.1 ∙ ap sheet_in w),
+    let a = placed_ok (moved_to_sheet 1) _ _ _ _ _ c.in_sheet.ensures c.in_ok-target.was c.read_part.ensures in
+    let b = placed_ok (moved_to_sheet 2) _ _ _ _ _ c.in_sheet-2.ensures c.in_ok-specification.was c.read_part-2.ensures in
+    let w = after_is t c.in_ok-target.target a.0 a.1 _ c.sheet_length-start.result c.sheet_length-start.ensures.value refl in (
+      in_neither t c.in_ok-target.target a.0 a.1 c.in_ok-specification.specification (ap (sheet_fault Specification) (sym w) ∙ b.0) (b.1 ∙ ap sheet_in w),
+      pair_is t c.in_ok-target.target a.0 a.1 c.in_ok-specification.specification (ap (sheet_fault Specification) (sym w) ∙ b.0) (b.1 ∙ ap sheet_in w),
     )

@@ -5,4 +5,4 @@ use Rattle.sheet.proofs.write.put_gates.Given as goal
 
 -- the rows so far are laid over what was there
 abbrev pub invariant-loop-i : goal.invariant-loop-i
-invariant-loop-i l = (l.into ≡ laid l.initial.into l.at (gate_texts l.own_val (take l.i l.gates))) × (length l.into ≡ length l.initial.into)
+invariant-loop-i l = (l.into ≡ laid l.initial.into l.at (gate_texts l.own (take l.i l.gates))) × (length l.into ≡ length l.initial.into)

@@ -1,4 +1,4 @@
-use Rattle.std.proofs.Common.{◌≡◌, ◌+◌, ◌*◌, length, take, sym, refl, ap, ◌∙◌, arith}
+use Rattle.std.proofs.Common.{sym, refl, ap, ◌∙◌, arith}
 use Rattle.std.proofs.lemmas.List.{take_all}
 use Rattle.sheet_format.specs.Rows.{output_texts}
 use Rattle.sheet.specs.Written.{laid}
@@ -10,9 +10,9 @@ loop-j-init c = (sym (laid_none c.args.into.now c.args.at (omega (arith, c.requi
 
 pub loop-j-preserved : goal.loop-j-preserved
 loop-j-preserved c = (
-  c.put-row.ensures ∙ output_turn c.args.into.now c.loop-j.into c.args.at c.loop-j.j _ c.args.outputs.now _ c.requires c.loop-j-test.true c.loop-j.invariant.0 refl
-      c.row-text.ensures,
-  omega (arith, c.put-row.auto.into, c.loop-j.invariant.1),
+  c.put_row.ensures ∙ output_turn c.args.into.now c.loop-j.into c.args.at c.loop-j.j _ c.args.outputs.now _ c.requires c.loop-j-test.true c.loop-j.invariant.0 refl
+      c.row_text.ensures,
+  omega (arith, c.put_row.auto.into, c.loop-j.invariant.1),
 )
 
 pub returns : goal.returns

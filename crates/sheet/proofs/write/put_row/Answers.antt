@@ -7,6 +7,6 @@ pub returns : goal.returns
 returns c =
     let at = c.args.at in
     let b = c.args.into.now in
-    let e = c.copy-from-slice.ensures in
-    part_laid at (at + 32 - at) b c.copy-from-slice.new.self c.args.row e.after
+    let e = c.copy_from_slice.ensures in
+    part_laid at (at + 32 - at) b c.copy_from_slice.new.self c.args.row e.after
     (omega (arith, e.len, ap length e.after, length-take (at + 32 - at) (drop at b), length-drop at b))

@@ -14,8 +14,8 @@ returns g c =
     let rows = c.args.rows.now in
     let inputs = c.args.inputs.now in
     let before = c.args.nets.now in
-    let after = c.put-gates.new.nets in
-    let gates = c.as-slice-gates.ensures.value in
+    let after = c.put_gates.new.nets in
+    let gates = c.as_slice-gates.ensures.value in
     let long = ap length gates in
     let room : net_count (drawn circuit) ≤ length before = omega arith in
     let n = circuit.inputs in
@@ -25,8 +25,8 @@ returns g c =
       room = room;
       rows_are = c.if-rows.false ∙ c.rows.ensures;
       inputs_are = all;
-      filled = both_written (gate_value ops rows) ops.falsity inputs before c.copy-from-slice.new.self after
-          n (n - 0) c.as-slice-gates.result.now (vec_items circuit.gates) whole all c.copy-from-slice.ensures.after gates c.put-gates.ensures;
+      filled = both_written (gate_value ops rows) ops.falsity inputs before c.copy_from_slice.new.self after
+          n (n - 0) c.as_slice-gates.result.now (vec_items circuit.gates) whole all c.copy_from_slice.ensures.after gates c.put_gates.ensures;
     } in
     record {
       exact = went_well ops (drawn circuit) rows inputs before after well;

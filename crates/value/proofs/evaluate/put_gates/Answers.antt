@@ -5,13 +5,13 @@ use Rattle.circuit.proofs.Rows.{rows_more}
 use Rattle.value.proofs.Runs.{gate_within, rows_left, run_more, gates_written}
 use Rattle.value.proofs.evaluate.put_gates.Goals as goal
 
-pub slice-bounds-gate-value-end : goal.slice-bounds-gate-value-end
-slice-bounds-gate-value-end g c =
+pub slice_bounds-gate_value-end : goal.slice_bounds-gate_value-end
+slice_bounds-gate_value-end g c =
     let room : c.args.n + c.loop-i.i ≤ length c.loop-i.nets = omega arith in
     room
 
-pub gate-value-value-requires : goal.gate-value-value-requires
-gate-value-value-requires g c =
+pub gate_value-value-requires : goal.gate_value-value-requires
+gate_value-value-requires g c =
     let gates = c.args.gates.now in
     let i = c.loop-i.i in
     let p = c.args.n + i in
@@ -35,7 +35,7 @@ loop-i-preserved g c =
     let i = c.loop-i.i in
     let p = c.args.n + i in
     let q = c.args.n + (i + 1) in
-    let v = c.gate-value-value.result in
+    let v = c.gate_value-value.result in
     let next : q ≡ p + 1 = omega arith in
     let whole : p - 0 ≡ p = omega arith in
     let room : p < length nets = omega arith in
@@ -43,14 +43,14 @@ loop-i-preserved g c =
     let in_gates = c.loop-i-test.true in
     let back : drop q nets ≡ drop q before =
     ap (λ n. drop n nets) next ∙ sym (drop-drop 1 p nets) ∙ ap (drop 1) c.loop-i.invariant.1 ∙ drop-drop 1 p before ∙ ap (λ n. drop n before) (sym next) in (
-      run_more (gate_value ops rows) ops.falsity nets first p (p - 0) q i gates _ v c.rows-first.result in_gates room whole next c.gate-value-value.ensures c.rows-first.ensures ∙ c.loop-i.invariant.0,
+      run_more (gate_value ops rows) ops.falsity nets first p (p - 0) q i gates _ v c.rows-first.result in_gates room whole next c.gate_value-value.ensures c.rows-first.ensures ∙ c.loop-i.invariant.0,
       drop-set-lt q nets p v past ∙ back,
       omega (arith, rows_more gates i c.rows-first.result _ in_gates c.rows-first.ensures),
       length-set nets p v ∙ c.loop-i.invariant.3,
     )
 
-pub shape-of-nets : goal.shape-of-nets
-shape-of-nets g c = c.loop-i.invariant.3
+pub shape_of-nets : goal.shape_of-nets
+shape_of-nets g c = c.loop-i.invariant.3
 
 pub returns : goal.returns
 returns g c =

@@ -7,8 +7,8 @@ use Rattle.engine.specs.View.State.{idle}
 use Rattle.counting.specs.Meaning.{row_of, state_of, view_of}
 use Rattle.counting.proofs.counting.Counting.store.Goals as goal
 
-pub invariant-of-self : goal.invariant-of-self
-invariant-of-self c =
+pub invariant_of-self : goal.invariant_of-self
+invariant_of-self c =
     let s = c.args.self.now in
     let clause = c.args.clause.now in
     let after = c.store.ensures in
@@ -19,7 +19,7 @@ invariant-of-self c =
     let long : length (take used (vec_items words)) ≡ used = omega (arith, length-take used (vec_items words), words.ok.0, after.len, c.requires.room) in
     let sized = coded_words (take used (vec_items words)) new.coded ∙ long in
     let inside = ap (all_inside s.variables) new.clauses ∙ inside_push s.variables (view_of s).clauses clause s.inside c.requires.inside in
-    ((s.room.0, omega (arith, after.len, c.requires.room)), (new.coded, (sized, (inside, (λ r x. let z : ◌≡◌ {A = ℕ} 0 1 = cc (x.0, rests) in absurd (omega arith), tt)))))
+    record { room = (s.room.0, omega (arith, after.len, c.requires.room)); coded = new.coded; sized = sized; inside = inside; tried = (λ r x. let z : ◌≡◌ {A = ℕ} 0 1 = cc (x.0, rests) in absurd (omega arith)) }
 
 pub returns : goal.returns
 returns c =

@@ -17,4 +17,4 @@ said f a w n p q = rw (p, q, ne_eqb f.row 0 n)
 
 pub returns-clause-writes : goal.returns-clause-writes
 returns-clause-writes g c = λ plain ok.
-    put_is _ _ _ _ _ (said c.args.self.now _ _ c.if-row-eq0-2.false c.sheet-name-sheet.ensures c.words-words.ensures) (c.write-2.ensures.writes plain ok)
+    put_is _ _ _ _ _ (said c.args.self.now _ _ c.if-row-eq0-2.false c.sheet_name-sheet.ensures c.words-words.ensures) (c.write-2.ensures.writes plain ok)
