@@ -1,6 +1,5 @@
 -- The count of differing words: it stays where words match, and grows by one at a word that does not.
-use Rattle.std.proofs.Common.{◌≡◌, ℕ, zero, suc, ◌+◌, ◌-◌, ◌^◌, ◌<◌, ◌≤◌, Bool, true, false, cond, not, ◌&&◌, List, [], ◌∷◌, sym, refl, ap, ◌∙◌, subst, add-zero, add-suc, add-one, arith, pow_mono}
-use Rattle.std.proofs.lemmas.Bool.{and_parts}
+use Rattle.std.proofs.Common.{◌≡◌, ℕ, zero, suc, ◌+◌, ◌-◌, ◌^◌, ◌<◌, ◌≤◌, Bool, true, false, cond, List, [], ◌∷◌, sym, refl, ap, ◌∙◌, add-zero, add-suc, add-one, arith, pow_mono}
 use Rattle.circuit.specs.Gates.{Sheet}
 use Rattle.meaning.specs.Meaning.{outputs_at, Matches}
 use Rattle.verify.specs.Count.{same, differing_below}

@@ -1,5 +1,5 @@
 -- A word that is found is the next to count; where none is found, the count is whole.
-use Rattle.std.proofs.Common.{◌≡◌, subst, arith}
+use Rattle.std.proofs.Common.{arith}
 use Rattle.std.proofs.lemmas.Option.{MatchOption-at_some, MatchOption-at_none}
 use Rattle.circuit.specs.View.{drawn}
 use Rattle.verify.proofs.Differing.{grows, ends}
