@@ -13,6 +13,7 @@ use refusal::fault::Fault;
 use refusal::refusal::Refusal;
 use sheet::read::load_pair;
 use std::io::{Read, Write};
+use std::process::ExitCode;
 use std::{env, io};
 
 /// One row more than the longest pair has.
@@ -102,12 +103,15 @@ fn verify(rt: &HostRuntime, setting: u64) -> io::Result<()> {
     }
 }
 
-fn main(rt: HostRuntime) -> anyhow::Result<()> {
+fn main(rt: HostRuntime) -> io::Result<ExitCode> {
     match argument(&rt) {
-        Ok(setting) => Ok(verify(&rt, setting)?),
+        Ok(setting) => {
+            verify(&rt, setting)?;
+            Ok(ExitCode::SUCCESS)
+        }
         Err(error) => {
             eprintln!(rt; "{error}")?;
-            Err(error)
+            Ok(ExitCode::FAILURE)
         }
     }
 }
