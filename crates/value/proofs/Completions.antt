@@ -13,7 +13,7 @@ use Rattle.value.specs.Kinds.{bit_ops, bit_lane, word_ops, word_lane, ternary_op
 use Rattle.value.specs.Laws.{RightOver, EvaluationRight}
 use Rattle.value.specs.declared.ternary.Ternary.{Ternary}
 use Rattle.value.proofs.Outcomes.{Done}
-use Rattle.value.proofs.Sharpness.{ternary_laws}
+use Rattle.value.specs.Sharpness.{ternary_laws}
 use Rattle.value.proofs.Simulation.{Kept, Follows, follows_bits, follows_inputs, follows_at}
 use Rattle.value.specs.Words.{bit_laws, word_laws}
 

@@ -1,4 +1,3 @@
-pub mod Sharpness
 pub mod Tables
 pub mod Simulation
 pub mod Outcomes

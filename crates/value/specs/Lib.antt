@@ -5,3 +5,4 @@ pub mod Values
 pub mod Outcome
 pub mod Laws
 pub mod Words
+pub mod Sharpness

@@ -1,6 +1,6 @@
 // The single bit.
 ghost use Rattle.value.specs.Kinds.{bit_ops, bit_lane};
-ghost use Rattle.std.proofs.Common.{rules};
+ghost use Rattle.value.specs.Words.{bit_laws};
 
 use crate::kind::{Algebra, Lanes};
 
@@ -49,5 +49,5 @@ impl Lanes for Bit {
 
     ghost lane = { bit_lane };
 
-    ghost sound = { Prim.search rules };
+    ghost sound = { bit_laws };
 }

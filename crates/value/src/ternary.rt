@@ -1,6 +1,6 @@
 // What one lane says, and the three-valued bit.
 ghost use Rattle.value.specs.Kinds.{ternary_ops, ternary_lane};
-ghost use Rattle.std.proofs.Common.{rules};
+ghost use Rattle.value.specs.Sharpness.{ternary_laws};
 
 use crate::kind::{Algebra, Lanes};
 
@@ -65,5 +65,5 @@ impl Lanes for Ternary {
 
     ghost lane = { ternary_lane };
 
-    ghost sound = { Prim.search rules };
+    ghost sound = { ternary_laws };
 }
