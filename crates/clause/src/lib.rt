@@ -3,3 +3,4 @@
 
 pub mod clause;
 pub mod literal;
+pub mod memory;
