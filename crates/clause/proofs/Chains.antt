@@ -18,9 +18,10 @@ pub any_outside : (v : ℕ) (c : Clause) → list_any (λ l. outside v l.variabl
 any_outside v [] = refl
 any_outside v (l ∷ c) = or_cond (outside v l.variable) _ ∙ ap (λ b. cond (outside v l.variable) true b) (any_outside v c)
 
-pub any_holds : (row : Row) (c : Clause) → list_any (literal_holds row) c ≡ clause_holds row c
-any_holds row [] = refl
-any_holds row (l ∷ c) = or_cond (literal_holds row l) _ ∙ ap (λ b. cond (literal_holds row l) true b) (any_holds row c)
+-- a clause of elements that hold literals
+pub any_holds : {W : Type 0} (literal : W → Literal) (row : Row) (c : List W) → list_any (λ w. literal_holds row (literal w)) c ≡ clause_holds row (map literal c)
+any_holds literal row [] = refl
+any_holds literal row (w ∷ c) = or_cond (literal_holds row (literal w)) _ ∙ ap (λ b. cond (literal_holds row (literal w)) true b) (any_holds literal row c)
 
 pub every_holds : (row : Row) (cs : List Clause) → list_all (clause_holds row) cs ≡ all_hold row cs
 every_holds row [] = refl

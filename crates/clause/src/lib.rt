@@ -4,3 +4,4 @@
 pub mod clause;
 pub mod literal;
 pub mod memory;
+pub mod values;
