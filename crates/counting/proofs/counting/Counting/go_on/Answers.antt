@@ -1,14 +1,13 @@
-use Rattle.std.proofs.Common.{◌≡◌, ◌++◌, ◌∙◌, length, take, drop, sym, ap, refl, arith, take_at}
+use Rattle.std.proofs.Common.{◌∙◌, sym, ap, refl, arith}
 use Rattle.counting.specs.Meaning.{row_of, view_of}
-use Rattle.counting.specs.Rows.{next, some_false}
-use Rattle.counting.proofs.Steps.{tried_next, seeks_more, seeks_none}
+use Rattle.counting.specs.Rows.{some_false}
+use Rattle.counting.proofs.Steps.{counted, tried_next, seeks_more, seeks_none}
 use Rattle.counting.proofs.counting.Counting.go_on.Goals as goal
 
 pub invariant_of-self : goal.invariant_of-self
 invariant_of-self c =
     let s = c.args.self.now in
-    let row' = take s.row.len (c.count_up.new.row ++ drop (length c.count_up.new.row) s.row.items) in
-    let after : row' ≡ next (row_of s) = take_at c.count_up.new.row _ s.row.len (omega arith) ∙ c.count_up.ensures.after ∙ ap next c.deref_mut.ensures.value in
+    let after = counted (row_of s) _ c.count_up.new.row s.row.len (omega arith) c.count_up.ensures.after c.deref_mut.ensures.value in
     let more = c.if-count_up.ensures.answer ∙ ap some_false c.deref_mut.ensures.value in
     record {
       row_room = s.row_room;
@@ -16,21 +15,20 @@ invariant_of-self c =
       coded = s.coded;
       sized = s.sized;
       inside = s.inside;
-      tried = tried_next s.control.phase (row_of s) row' (view_of s).clauses c.requires.searching after more s.tried (sym c.requires.fails);
+      tried = tried_next s.control.phase (row_of s) _ (view_of s).clauses c.requires.searching after more s.tried (sym c.requires.fails);
     }
 
 pub returns-then-count_up : goal.returns-then-count_up
 returns-then-count_up c =
     let s = c.args.self.now in
-    let row' = take s.row.len (c.count_up.new.row ++ drop (length c.count_up.new.row) s.row.items) in
-    let after : row' ≡ next (row_of s) = take_at c.count_up.new.row _ s.row.len (omega arith) ∙ c.count_up.ensures.after ∙ ap next c.deref_mut.ensures.value in
+    let after = counted (row_of s) _ c.count_up.new.row s.row.len (omega arith) c.count_up.ensures.after c.deref_mut.ensures.value in
     let more = c.if-count_up.ensures.answer ∙ ap some_false c.deref_mut.ensures.value in
     record {
       variables = refl;
       clauses = refl;
       places = refl;
       count = refl;
-      seeks = seeks_more s.control.phase (row_of s) row' s.row.len (view_of s).clauses c.requires.searching after more;
+      seeks = seeks_more s.control.phase (row_of s) _ s.row.len (view_of s).clauses c.requires.searching after more;
     }
 
 pub returns : goal.returns
