@@ -8,10 +8,5 @@ use crate::literal::Literal;
 pub fn some_outside(clause: &[Literal], variables: usize) -> bool
     ensures { result ≡ some_outside variables clause.now }
 {
-    for literal in clause {
-        if literal.variable < 1 || variables < literal.variable {
-            return true;
-        }
-    }
-    false
+    clause.iter().any(|literal| literal.variable < 1 || variables < literal.variable)
 }

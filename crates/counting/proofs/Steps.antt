@@ -1,11 +1,9 @@
 -- What a step comes to: the row holds, or one row more has failed.
-use Rattle.std.proofs.Common.{◌≡◌, ℕ, ◌+◌, ◌-◌, ◌*◌, ◌^◌, ◌<◌, ◌≤◌, true, false, List, length, replicate, sym, refl, ap, ◌∙◌, subst, add-one, arith, pow_pos}
-use native.Mathlib.Nat.{pow-succ'}
+use Rattle.std.proofs.Common.{◌≡◌, ℕ, ◌-◌, ◌^◌, ◌<◌, true, false, List, ◌++◌, length, take, drop, replicate, sym, refl, ap, ◌∙◌, subst, arith, take_at}
 use borrow.Author.Tests.{both_ways}
-use lib.ListN.{length-replicate}
 use Rattle.clause.specs.Logic.{Row, Clause, all_hold}
 use Rattle.engine.specs.Calls.{Seeks}
-use Rattle.engine.specs.View.{allowance, owed_in}
+use Rattle.engine.specs.View.{owed_in}
 use Rattle.engine.specs.View.State.{none}
 use Rattle.engine.specs.declared.types.Answer.TheVariants.{More, Unsatisfiable}
 use Rattle.counting.specs.Meaning.{state_of}
@@ -15,16 +13,13 @@ use Rattle.engine.specs.declared.types.Phase.{Phase}
 use Rattle.engine.specs.declared.types.Phase.TheVariants.{Searching}
 use Rattle.counting.proofs.Order.{number_below, number_next, number_last, number_first, next_length, fails_up_to}
 
--- the first row: none is before it, and all of them are owed
+-- the first row: none is before it
 pub none_before : (row : Row) (n : ℕ) (cs : List Clause) → row ≡ replicate n false → Tried Searching row cs
 none_before row n cs e r x = let zero_row = ap number e ∙ number_first n in absurd (omega (arith, x.1.less))
 
-pub first_owes : (row : Row) (n : ℕ) → row ≡ replicate n false → 2 ^ length row - number row ≤ allowance n
-first_owes row n e =
-    let long : length row ≡ n = ap length e ∙ length-replicate n false in
-    let powers : 2 ^ length row ≡ 2 ^ n = ap (λ k. 2 ^ k) long in
-    let twice : 2 ^ (n + 1) ≡ 2 * 2 ^ n = ap (λ k. 2 ^ k) (add-one n) ∙ pow-succ' 2 n in
-    omega (arith, pow_pos n)
+-- a row that was lent as a slice, and counted up there
+pub counted : (row lent new : Row) (len : ℕ) → length new ≡ len → new ≡ next lent → lent ≡ row → take len (new ++ drop (length new) row) ≡ next row
+counted row lent new len l e same = take_at new (drop (length new) row) len l ∙ e ∙ ap next same
 
 -- the row failed, and there is one after it
 pub tried_next : (p : Phase) (row row' : Row) (cs : List Clause) → p ≡ Searching → row' ≡ next row → true ≡ some_false row → Tried p row cs → false ≡ all_hold row cs → Tried Searching row' cs

@@ -1,10 +1,13 @@
 -- When a call of an engine is refused, and when not.
-use Rattle.std.proofs.Common.{◌≡◌, ℕ, ◌+◌, ◌<◌, ◌≤◌, true, false, ltb, length, Some, None, Option, arith, le-ltb, lt-ltb}
+use Rattle.std.proofs.Common.{◌≡◌, ℕ, ◌+◌, ◌<◌, ◌≤◌, true, false, ltb, length, Some, None, Option, refl, arith, le-ltb, lt-ltb}
 use Rattle.refusal.specs.declared.refusal.Refusal.TheVariants.{PlacesLacking, StepsSpent}
-use Rattle.clause.specs.Logic.{Clause, words, some_outside}
+use Rattle.clause.specs.Logic.{Row, Clause, words, some_outside}
 use Rattle.engine.specs.Calls.{grow_refusal, add_refusal, step_refusal, step_limit}
 use Rattle.engine.specs.Search.{run_refusal}
-use Rattle.engine.specs.View.{View, is_searching}
+use Rattle.engine.specs.View.{View, is_searching, has_model}
+use Rattle.engine.specs.Phases.{state_in, in_search, at_model}
+use Rattle.engine.specs.declared.types.Phase.{Phase}
+use Rattle.engine.specs.declared.types.Phase.TheVariants.{Idle, Searching, Model, Unsatisfiable}
 
 pub none_some : {A : Type 0} {x : A} (o : Option A) → o ≡ None → o ≡ Some x → ⊥
 none_some o n s = let z : ◌≡◌ {A = ℕ} 0 1 = cc in omega arith
@@ -28,3 +31,16 @@ run_admits e budget h = let t : ltb step_limit (e.count + budget) ≡ false = le
 
 pub run_lacks : (e : View) (budget : ℕ) → step_limit < e.count + budget → run_refusal e budget ≡ Some StepsSpent
 run_lacks e budget h = let t : ltb step_limit (e.count + budget) ≡ true = lt-ltb _ _ h in rw t
+
+-- what a phase says of the state of an engine in it
+pub searching_in : (p : Phase) (debt : ℕ) (row : Row) → is_searching (state_in p debt row) ≡ in_search p
+searching_in Idle debt row = refl
+searching_in Searching debt row = refl
+searching_in Model debt row = refl
+searching_in Unsatisfiable debt row = refl
+
+pub model_in : (p : Phase) (debt : ℕ) (row : Row) → has_model (state_in p debt row) ≡ at_model p
+model_in Idle debt row = refl
+model_in Searching debt row = refl
+model_in Model debt row = refl
+model_in Unsatisfiable debt row = refl

@@ -1,38 +1,44 @@
-use Rattle.std.proofs.Common.{◌≡◌, length, take, vec_items, sym, refl, arith, length-take, rules}
+use Rattle.std.proofs.Common.{◌∙◌, sym, ap, refl, arith}
 use Rattle.counting.specs.Meaning.{row_of, view_of}
-use Rattle.counting.proofs.Steps.{tried_next, seeks_more, seeks_none}
+use Rattle.counting.specs.Rows.{some_false}
+use Rattle.counting.proofs.Steps.{counted, tried_next, seeks_more, seeks_none}
 use Rattle.counting.proofs.counting.Counting.go_on.Goals as goal
 
 pub invariant_of-self : goal.invariant_of-self
 invariant_of-self c =
     let s = c.args.self.now in
-    let after = c.if-next_row.ensures in
-    let row' = take s.variables (vec_items c.next_row.new.values) in
-    let tried = tried_next s.phase (row_of s) row' (view_of s).clauses c.requires.searching after.after after.answer s.tried (sym c.requires.fails) in
-    record { room = (omega (arith, after.len, s.room), s.room.1); coded = s.coded; sized = s.sized; inside = s.inside; tried = tried }
+    let after = counted (row_of s) _ c.count_up.new.row s.row.len (omega arith) c.count_up.ensures.after c.deref_mut.ensures.value in
+    let more = c.if-count_up.ensures.answer ∙ ap some_false c.deref_mut.ensures.value in
+    record {
+      row_room = s.row_room;
+      word_room = s.word_room;
+      coded = s.coded;
+      sized = s.sized;
+      inside = s.inside;
+      tried = tried_next s.control.phase (row_of s) _ (view_of s).clauses c.requires.searching after more s.tried (sym c.requires.fails);
+    }
 
-pub returns-then-next_row : goal.returns-then-next_row
-returns-then-next_row c =
+pub returns-then-count_up : goal.returns-then-count_up
+returns-then-count_up c =
     let s = c.args.self.now in
-    let after = c.if-next_row.ensures in
-    let row' = take s.variables (vec_items c.next_row.new.values) in
+    let after = counted (row_of s) _ c.count_up.new.row s.row.len (omega arith) c.count_up.ensures.after c.deref_mut.ensures.value in
+    let more = c.if-count_up.ensures.answer ∙ ap some_false c.deref_mut.ensures.value in
     record {
       variables = refl;
       clauses = refl;
-      places = search rules;
+      places = refl;
       count = refl;
-      seeks = seeks_more s.phase (row_of s) row' s.variables (view_of s).clauses c.requires.searching after.after after.answer;
+      seeks = seeks_more s.control.phase (row_of s) _ s.row.len (view_of s).clauses c.requires.searching after more;
     }
 
 pub returns : goal.returns
 returns c =
     let s = c.args.self.now in
-    let after = c.if-next_row.ensures in
-    let long : length (row_of s) ≡ s.variables = omega (arith, length-take s.variables (vec_items s.values), s.values.ok.0, s.room) in
+    let none = c.if-count_up.ensures.answer ∙ ap some_false c.deref_mut.ensures.value in
     record {
       variables = refl;
       clauses = refl;
-      places = search rules;
+      places = refl;
       count = refl;
-      seeks = seeks_none s.phase (row_of s) s.variables (view_of s).clauses 0 c.requires.searching long after.answer s.tried (sym c.requires.fails);
+      seeks = seeks_none s.control.phase (row_of s) s.row.len (view_of s).clauses 0 c.requires.searching (sym s.row.ok.0) none s.tried (sym c.requires.fails);
     }
