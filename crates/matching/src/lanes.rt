@@ -12,6 +12,15 @@ use value::evaluate::evaluate;
 use value::kind::Algebra;
 use value::word::Word;
 
+/// The most setting rows of a circuit.
+const MOST_ROWS: usize = 64;
+
+/// The most inputs of a circuit.
+const MOST_INPUTS: usize = 16;
+
+/// The most nets of a circuit.
+const MOST_NETS: usize = 216;
+
 /// Bit i of the numbers 0 to 63, for each i below 6.
 const COUNTING: [u64; 6] = [
     0xAAAA_AAAA_AAAA_AAAA,
@@ -34,14 +43,14 @@ fn input_lanes(i: usize, block: u64) -> Word
     }
 }
 
-/// The values of all nets under the setting at every input word of the block. A call allocates nothing, so the arrays are as long
-/// as any circuit needs, and what stands behind the circuit's own values is not used.
-pub(crate) fn run(circuit: &Circuit, setting: u64, block: u64) -> [Word; 216]
+/// The values of all nets under the setting at every input word of the block.
+// A call allocates nothing: the arrays are as long as any circuit needs, and `evaluate` takes the front that is this circuit's.
+pub(crate) fn run(circuit: &Circuit, setting: u64, block: u64) -> [Word; MOST_NETS]
     ensures { HoldNets (drawn circuit.now) setting block result }
 {
-    let rows: [Word; 64] = array::from_fn(|i| Word::from(bit_of(setting, i as u64)));
-    let inputs: [Word; 16] = array::from_fn(|i| input_lanes(i, block));
-    let mut nets = [Word::falsity(); 216];
+    let rows: [Word; MOST_ROWS] = array::from_fn(|i| Word::from(bit_of(setting, i as u64)));
+    let inputs: [Word; MOST_INPUTS] = array::from_fn(|i| input_lanes(i, block));
+    let mut nets = [Word::falsity(); MOST_NETS];
     let m = circuit.rows();
     let n = usize::from(circuit.inputs);
     let _ = evaluate(circuit, &rows[..m], &inputs[..n], &mut nets);
