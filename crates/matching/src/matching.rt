@@ -1,12 +1,12 @@
 // Target against specification: whether they match at an input word, and the first input word at which they do not.
-ghost use Rattle.std.specs.Prelude.{◌≡◌, ℕ, ◌+◌, ◌*◌, ◌/◌, ◌^◌, ◌<◌, ◌≤◌, not, map, length, Decides};
+ghost use Rattle.std.specs.Prelude.{◌≡◌, ℕ, ◌+◌, ◌*◌, ◌/◌, ◌^◌, ◌<◌, ◌≤◌, true, false, not, map, length, MatchResult, Decides};
 ghost use Rattle.circuit.specs.Gates.{Driven};
 ghost use Rattle.circuit.specs.View.{drawn};
 ghost use Rattle.meaning.specs.Meaning.{bit};
 ghost use Rattle.matching.specs.Answers.{alike, Matched, Tried};
 ghost use Rattle.matching.specs.Blocks.{net_bit, Compared, LowestBelow};
 
-use crate::bits::{bit_of, fits};
+use crate::bits::{bit_of, check};
 use crate::lanes::{net_lanes, run};
 use circuit::pair::Pair;
 use refusal::refusal::Refusal;
@@ -20,57 +20,10 @@ fn unequal(a: &[u8], t: &[Word], b: &[u8], s: &[Word]) -> u64
     ensures { (j : ℕ) → Decides (not (bit result j)) (map (net_bit t.now j) a.now ≡ map (net_bit s.now j) b.now) }
 {
     let mut lanes = 0;
-    for i in 0..a.len() {
-        lanes |= net_lanes(t, a[i]) ^ net_lanes(s, b[i]);
+    for (a, b) in a.iter().zip(b) {
+        lanes |= net_lanes(t, *a) ^ net_lanes(s, *b);
     }
     lanes
-}
-
-/// The lanes of the block at whose input words the outputs differ.
-fn differing(pair: &Pair, setting: u64, block: u64) -> u64
-    requires { length (drawn pair.now.target).outputs ≡ length (drawn pair.now.specification).outputs }
-    ensures { Compared (drawn pair.now.target) (drawn pair.now.specification) setting block result }
-{
-    let mut target = [Word { bits: 0 }; 216];
-    run(&pair.target, setting, block, &mut target);
-    let mut specification = [Word { bits: 0 }; 216];
-    run(&pair.specification, 0, block, &mut specification);
-    unequal(
-        pair.target.outputs.as_slice(),
-        &target,
-        pair.specification.outputs.as_slice(),
-        &specification,
-    )
-}
-
-/// The lowest input word from `from` to the end of its block at which the outputs differ.
-fn lowest_in_block(pair: &Pair, setting: u64, from: u64) -> Option<u64>
-    requires like { length (drawn pair.now.target).outputs ≡ length (drawn pair.now.specification).outputs }
-    requires small { from < 2 ^ 16 }
-    ensures { LowestBelow (drawn pair.now.target) (drawn pair.now.specification) setting from (64 * (from / 64) + 64) result }
-{
-    let lanes = differing(pair, setting, from / 64) >> (from % 64);
-    if lanes == 0 {
-        None
-    } else {
-        Some(from + u64::from(lanes.trailing_zeros()))
-    }
-}
-
-/// The lowest input word from `from` on, below `end`, at which the outputs differ.
-fn lowest(pair: &Pair, setting: u64, from: u64, end: u64) -> Option<u64>
-    requires like { length (drawn pair.now.target).outputs ≡ length (drawn pair.now.specification).outputs }
-    requires small { end ≤ 2 ^ 16 }
-    ensures { LowestBelow (drawn pair.now.target) (drawn pair.now.specification) setting from end result }
-{
-    let mut word = from;
-    while word < end {
-        if let Some(found) = lowest_in_block(pair, setting, word) {
-            return if found < end { Some(found) } else { None };
-        }
-        word = (word / 64 + 1) * 64;
-    }
-    None
 }
 
 /// Whether the circuits have as many inputs and outputs.
@@ -81,21 +34,77 @@ fn alike(pair: &Pair) -> bool
         && pair.target.outputs.len() == pair.specification.outputs.len()
 }
 
+/// A pair of circuits of as many inputs and outputs, and a setting of the target.
+#[derive(Drop)]
+struct Comparison<'a> {
+    pair: &'a Pair,
+    setting: u64,
+    ghost like: { length (drawn pair.now.target).outputs ≡ length (drawn pair.now.specification).outputs },
+}
+
+impl<'a> Comparison<'a> {
+    /// Circuits of unlike numbers of inputs or outputs are refused.
+    fn new(pair: &'a Pair, setting: u64) -> Result<Comparison<'a>, Refusal>
+        ensures { let t = drawn pair.now.target in
+            let s = drawn pair.now.specification in
+            MatchResult result (λ c. (alike t s ≡ true) × (c.pair.now ≡ pair.now) × (c.setting ≡ setting)) (λ e. (alike t s ≡ false) × (e ≡ Refusal.Unlike)) }
+    {
+        if !alike(pair) {
+            return Err(Refusal::Unlike);
+        }
+        Ok(Comparison { pair, setting })
+    }
+
+    /// The lanes of the block at whose input words the outputs differ.
+    fn differing(&self, block: u64) -> u64
+        ensures { Compared (drawn self.now.pair.now.target) (drawn self.now.pair.now.specification) self.now.setting block result }
+    {
+        let target = run(&self.pair.target, self.setting, block);
+        let specification = run(&self.pair.specification, 0, block);
+        unequal(
+            self.pair.target.outputs.as_slice(),
+            &target,
+            self.pair.specification.outputs.as_slice(),
+            &specification,
+        )
+    }
+
+    /// The lowest input word from `from` to the end of its block at which the outputs differ.
+    fn lowest_in_block(&self, from: u64) -> Option<u64>
+        requires { from < 2 ^ 16 }
+        ensures { LowestBelow (drawn self.now.pair.now.target) (drawn self.now.pair.now.specification) self.now.setting from (64 * (from / 64) + 64) result }
+    {
+        let lanes = self.differing(from / 64) >> (from % 64);
+        if lanes == 0 {
+            None
+        } else {
+            Some(from + u64::from(lanes.trailing_zeros()))
+        }
+    }
+
+    /// The lowest input word from `from` on, below `end`, at which the outputs differ.
+    fn lowest(&self, from: u64, end: u64) -> Option<u64>
+        requires { end ≤ 2 ^ 16 }
+        ensures { LowestBelow (drawn self.now.pair.now.target) (drawn self.now.pair.now.specification) self.now.setting from end result }
+    {
+        for block in from / 64..end.div_ceil(64) {
+            if let Some(found) = self.lowest_in_block(from.max(64 * block)) {
+                return if found < end { Some(found) } else { None };
+            }
+        }
+        None
+    }
+}
+
 /// Whether target, under the setting, and specification give equal outputs at the input word.
 /// Circuits of unlike numbers of inputs or outputs are refused, then an input word and then a setting of too many bits.
 pub fn matches(pair: &Pair, setting: u64, word: u64) -> Result<bool, Refusal>
     ensures { Matched (drawn pair.now.target) (drawn pair.now.specification) setting word result }
 {
-    if !alike(pair) {
-        return Err(Refusal::Unlike);
-    }
-    if !fits(word, pair.target.inputs as usize) {
-        return Err(Refusal::WordRange);
-    }
-    if !fits(setting, pair.target.rows()) {
-        return Err(Refusal::SettingRange);
-    }
-    Ok(!bit_of(differing(pair, setting, word / 64), word % 64))
+    let comparison = Comparison::new(pair, setting)?;
+    check(word, usize::from(pair.target.inputs), Refusal::WordRange)?;
+    check(setting, pair.target.rows(), Refusal::SettingRange)?;
+    Ok(!bit_of(comparison.differing(word / 64), word % 64))
 }
 
 /// The lowest input word from `from` on at which the outputs differ, or none.
@@ -103,13 +112,9 @@ pub fn matches(pair: &Pair, setting: u64, word: u64) -> Result<bool, Refusal>
 pub fn next_difference(pair: &Pair, setting: u64, from: u64) -> Result<Option<u64>, Refusal>
     ensures { Tried (drawn pair.now.target) (drawn pair.now.specification) setting from result }
 {
-    if !alike(pair) {
-        return Err(Refusal::Unlike);
-    }
-    if !fits(setting, pair.target.rows()) {
-        return Err(Refusal::SettingRange);
-    }
-    Ok(lowest(pair, setting, from, 1 << pair.target.inputs))
+    let comparison = Comparison::new(pair, setting)?;
+    check(setting, pair.target.rows(), Refusal::SettingRange)?;
+    Ok(comparison.lowest(from, 1 << pair.target.inputs))
 }
 
 /// The lowest input word at which the outputs differ, or none.

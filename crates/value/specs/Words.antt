@@ -17,7 +17,7 @@ xor_true true = refl
 xor_true false = refl
 
 -- a digit is 0 or 1
-digit : (n : ℕ) → (n % 2 ≡ 0) ⊎ (n % 2 ≡ 1)
+pub digit : (n : ℕ) → (n % 2 ≡ 0) ⊎ (n % 2 ≡ 1)
 digit n = grind arith
 
 low_and : (p q : ℕ) → (bit_and p q % 2 == 1) ≡ (p % 2 == 1 && q % 2 == 1)
