@@ -4,16 +4,13 @@
 
 use circuit::circuit::Circuit;
 use sheet::read::load_pair;
-use std::io::Read;
+use std::io;
 use std::time::Instant;
-use std::{array, io};
+use streams::read_bytes;
 use value::bit::Bit;
 use value::evaluate::evaluate;
 use value::kind::Algebra;
 use value::word::Word;
-
-/// One row more than the longest pair has.
-const LONGEST: u64 = 13_920;
 
 /// At how many input words the circuit is evaluated.
 const WORDS: u64 = 262_144;
@@ -99,8 +96,7 @@ fn measure(rt: &HostRuntime, circuit: &Circuit) -> io::Result<()> {
 }
 
 fn main(rt: HostRuntime) -> io::Result<()> {
-    let mut bytes = Vec::new(rt.alloc());
-    rt.stdin().take(LONGEST).read_to_end(&mut bytes)?;
+    let bytes = read_bytes(rt.alloc(), rt.stdin())?;
     match load_pair(rt.alloc(), bytes.as_slice()) {
         Ok(pair) => measure(&rt, &pair.target),
         Err(fault) => eprintln!(rt; "{fault}"),
