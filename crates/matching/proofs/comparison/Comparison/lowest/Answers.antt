@@ -1,7 +1,7 @@
 -- Block by block: before the block there is none that differs, and the block is searched from `from` on.
 use Rattle.std.proofs.Common.{◌*◌, inl, inr, arith}
 use Rattle.std.proofs.lemmas.Bool.{cases_lt}
-use Rattle.matching.proofs.matching.Comparison.lowest.Goals as goal
+use Rattle.matching.proofs.comparison.Comparison.lowest.Goals as goal
 
 pub returns-then-found-end : goal.returns-then-found-end
 returns-then-found-end c =
