@@ -3,9 +3,10 @@ ghost use Rattle.std.specs.Prelude.{◌≡◌, ℕ, ◌+◌, ◌*◌, ◌/◌, �
 ghost use Rattle.circuit.specs.Gates.{Driven};
 ghost use Rattle.circuit.specs.View.{drawn};
 ghost use Rattle.meaning.specs.Meaning.{bit};
-ghost use Rattle.matching.specs.Answers.{alike};
+ghost use Rattle.matching.specs.Answers.{alike, try_refusal, Lowest};
 ghost use Rattle.matching.specs.Blocks.{net_bit, Compared, LowestBelow};
 
+use crate::bits::check;
 use crate::lanes::{net_lanes, run};
 use circuit::pair::Pair;
 use refusal::refusal::Refusal;
@@ -54,6 +55,17 @@ impl<'a> Comparison<'a> {
         Ok(Comparison { pair, setting })
     }
 
+    /// A setting of too many bits is refused too, after them.
+    pub(crate) fn checked(pair: &'a Pair, setting: u64) -> Result<Comparison<'a>, Refusal>
+        ensures { let t = drawn pair.now.target in
+            let s = drawn pair.now.specification in
+            MatchResult result (λ c. (try_refusal t s setting ≡ None) × (c.pair.now ≡ pair.now) × (c.setting ≡ setting)) (λ e. try_refusal t s setting ≡ Some e) }
+    {
+        let comparison = Comparison::new(pair, setting)?;
+        check(setting, pair.target.rows(), Refusal::SettingRange)?;
+        Ok(comparison)
+    }
+
     /// The lanes of the block at whose input words the outputs differ.
     pub(crate) fn differing(&self, block: u64) -> u64
         ensures { Compared (drawn self.now.pair.now.target) (drawn self.now.pair.now.specification) self.now.setting block result }
@@ -81,11 +93,19 @@ impl<'a> Comparison<'a> {
         }
     }
 
-    /// The lowest input word from `from` on, below `end`, at which the outputs differ.
-    pub(crate) fn lowest(&self, from: u64, end: u64) -> Option<u64>
-        requires { end ≤ 2 ^ 16 }
-        ensures { LowestBelow (drawn self.now.pair.now.target) (drawn self.now.pair.now.specification) self.now.setting from end result }
+    /// How many input words there are.
+    fn words(&self) -> u64
+        ensures all { result ≡ 2 ^ self.now.pair.now.target.inputs }
+        ensures few { result ≤ 2 ^ 16 }
     {
+        1 << self.pair.target.inputs
+    }
+
+    /// The lowest input word from `from` on at which the outputs differ.
+    pub(crate) fn lowest(&self, from: u64) -> Option<u64>
+        ensures { Lowest (drawn self.now.pair.now.target) (drawn self.now.pair.now.specification) self.now.setting from result }
+    {
+        let end = self.words();
         for block in from / 64..end.div_ceil(64) {
             if let Some(found) = self.lowest_in_block(from.max(64 * block)) {
                 return if found < end { Some(found) } else { None };

@@ -3,7 +3,6 @@ ghost use Rattle.std.specs.Iterator.{YieldsFirst, item_count};
 ghost use Rattle.circuit.specs.View.{drawn};
 ghost use Rattle.matching.specs.Differing.{words_left, Listed};
 
-use crate::bits::check;
 use crate::comparison::Comparison;
 use circuit::pair::Pair;
 use refusal::refusal::Refusal;
@@ -23,8 +22,7 @@ impl<'a> Iterator for DifferingWords<'a> {
     ghost remaining = { item_count words_left };
 
     fn next(&mut self) -> Option<u64> {
-        let end = 1 << self.comparison.pair.target.inputs;
-        let word = self.comparison.lowest(self.from, end)?;
+        let word = self.comparison.lowest(self.from)?;
         self.from = word + 1;
         Some(word)
     }
@@ -35,8 +33,7 @@ impl<'a> Iterator for DifferingWords<'a> {
 pub fn differences(pair: &Pair, setting: u64) -> Result<DifferingWords<'_>, Refusal>
     ensures { Listed (drawn pair.now.target) (drawn pair.now.specification) setting result }
 {
-    let comparison = Comparison::new(pair, setting)?;
-    check(setting, pair.target.rows(), Refusal::SettingRange)?;
+    let comparison = Comparison::checked(pair, setting)?;
     Ok(DifferingWords {
         comparison,
         from: 0,

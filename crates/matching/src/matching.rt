@@ -23,9 +23,7 @@ pub fn matches(pair: &Pair, setting: u64, word: u64) -> Result<bool, Refusal>
 pub fn next_difference(pair: &Pair, setting: u64, from: u64) -> Result<Option<u64>, Refusal>
     ensures { Tried (drawn pair.now.target) (drawn pair.now.specification) setting from result }
 {
-    let comparison = Comparison::new(pair, setting)?;
-    check(setting, pair.target.rows(), Refusal::SettingRange)?;
-    Ok(comparison.lowest(from, 1 << pair.target.inputs))
+    Ok(Comparison::checked(pair, setting)?.lowest(from))
 }
 
 /// The lowest input word at which the outputs differ, or none.

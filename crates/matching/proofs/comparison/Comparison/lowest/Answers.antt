@@ -7,7 +7,7 @@ pub returns-then-found-end : goal.returns-then-found-end
 returns-then-found-end c =
     let first = c.in-Some.ensures in (
       omega arith,
-      c.if-found-end.true,
+      omega arith,
       first.2,
       λ w low high. elim (cases_lt w (64 * c.loop-block.block)) [ inl h ↦ c.loop-block.invariant w low h | inr h ↦ first.3 w (omega arith) high ],
     )
