@@ -1,100 +1,11 @@
 // Target against specification: whether they match at an input word, and the first input word at which they do not.
-ghost use Rattle.std.specs.Prelude.{◌≡◌, ℕ, ◌+◌, ◌*◌, ◌/◌, ◌^◌, ◌<◌, ◌≤◌, true, false, not, map, length, MatchResult, Decides};
-ghost use Rattle.circuit.specs.Gates.{Driven};
 ghost use Rattle.circuit.specs.View.{drawn};
-ghost use Rattle.meaning.specs.Meaning.{bit};
-ghost use Rattle.matching.specs.Answers.{alike, Matched, Tried};
-ghost use Rattle.matching.specs.Blocks.{net_bit, Compared, LowestBelow};
+ghost use Rattle.matching.specs.Answers.{Matched, Tried};
 
 use crate::bits::{bit_of, check};
-use crate::lanes::{net_lanes, run};
+use crate::comparison::Comparison;
 use circuit::pair::Pair;
 use refusal::refusal::Refusal;
-use value::word::Word;
-
-/// The lanes in which some output `a` of the nets `t` is not the like output `b` of the nets `s`.
-fn unequal(a: &[u8], t: &[Word], b: &[u8], s: &[Word]) -> u64
-    requires long { length a.now ≡ length b.now }
-    requires left { Driven (length t.now) a.now }
-    requires right { Driven (length s.now) b.now }
-    ensures { (j : ℕ) → Decides (not (bit result j)) (map (net_bit t.now j) a.now ≡ map (net_bit s.now j) b.now) }
-{
-    let mut lanes = 0;
-    for (a, b) in a.iter().zip(b) {
-        lanes |= net_lanes(t, *a) ^ net_lanes(s, *b);
-    }
-    lanes
-}
-
-/// Whether the circuits have as many inputs and outputs.
-fn alike(pair: &Pair) -> bool
-    ensures { result ≡ alike (drawn pair.now.target) (drawn pair.now.specification) }
-{
-    pair.target.inputs == pair.specification.inputs
-        && pair.target.outputs.len() == pair.specification.outputs.len()
-}
-
-/// A pair of circuits of as many inputs and outputs, and a setting of the target.
-#[derive(Drop)]
-struct Comparison<'a> {
-    pair: &'a Pair,
-    setting: u64,
-    ghost like: { length (drawn pair.now.target).outputs ≡ length (drawn pair.now.specification).outputs },
-}
-
-impl<'a> Comparison<'a> {
-    /// Circuits of unlike numbers of inputs or outputs are refused.
-    fn new(pair: &'a Pair, setting: u64) -> Result<Comparison<'a>, Refusal>
-        ensures { let t = drawn pair.now.target in
-            let s = drawn pair.now.specification in
-            MatchResult result (λ c. (alike t s ≡ true) × (c.pair.now ≡ pair.now) × (c.setting ≡ setting)) (λ e. (alike t s ≡ false) × (e ≡ Refusal.Unlike)) }
-    {
-        if !alike(pair) {
-            return Err(Refusal::Unlike);
-        }
-        Ok(Comparison { pair, setting })
-    }
-
-    /// The lanes of the block at whose input words the outputs differ.
-    fn differing(&self, block: u64) -> u64
-        ensures { Compared (drawn self.now.pair.now.target) (drawn self.now.pair.now.specification) self.now.setting block result }
-    {
-        let target = run(&self.pair.target, self.setting, block);
-        let specification = run(&self.pair.specification, 0, block);
-        unequal(
-            self.pair.target.outputs.as_slice(),
-            &target,
-            self.pair.specification.outputs.as_slice(),
-            &specification,
-        )
-    }
-
-    /// The lowest input word from `from` to the end of its block at which the outputs differ.
-    fn lowest_in_block(&self, from: u64) -> Option<u64>
-        requires { from < 2 ^ 16 }
-        ensures { LowestBelow (drawn self.now.pair.now.target) (drawn self.now.pair.now.specification) self.now.setting from (64 * (from / 64) + 64) result }
-    {
-        let lanes = self.differing(from / 64) >> (from % 64);
-        if lanes == 0 {
-            None
-        } else {
-            Some(from + u64::from(lanes.trailing_zeros()))
-        }
-    }
-
-    /// The lowest input word from `from` on, below `end`, at which the outputs differ.
-    fn lowest(&self, from: u64, end: u64) -> Option<u64>
-        requires { end ≤ 2 ^ 16 }
-        ensures { LowestBelow (drawn self.now.pair.now.target) (drawn self.now.pair.now.specification) self.now.setting from end result }
-    {
-        for block in from / 64..end.div_ceil(64) {
-            if let Some(found) = self.lowest_in_block(from.max(64 * block)) {
-                return if found < end { Some(found) } else { None };
-            }
-        }
-        None
-    }
-}
 
 /// Whether target, under the setting, and specification give equal outputs at the input word.
 /// Circuits of unlike numbers of inputs or outputs are refused, then an input word and then a setting of too many bits.
@@ -112,9 +23,7 @@ pub fn matches(pair: &Pair, setting: u64, word: u64) -> Result<bool, Refusal>
 pub fn next_difference(pair: &Pair, setting: u64, from: u64) -> Result<Option<u64>, Refusal>
     ensures { Tried (drawn pair.now.target) (drawn pair.now.specification) setting from result }
 {
-    let comparison = Comparison::new(pair, setting)?;
-    check(setting, pair.target.rows(), Refusal::SettingRange)?;
-    Ok(comparison.lowest(from, 1 << pair.target.inputs))
+    Ok(Comparison::checked(pair, setting)?.lowest(from))
 }
 
 /// The lowest input word at which the outputs differ, or none.

@@ -52,13 +52,13 @@ value_of_own ops rows own first net (Table t) e =
     (λ r l. ap (λ x. and_inputs ops x r ins) (each r l))
 
 -- with the value v of gate i, made of the r rows of its own, written at place p, the values and gates that are left give what they gave before
-pub run_more : {K : Type 0} (ops : Ops K) (rows left own nets : List K) (p q i r : ℕ) (gates : List Gate) (d : Gate) (v : K)
+pub run_more : {K : Type 0} (ops : Ops K) (rows left own nets : List K) (p q i r : ℕ) (gates : List Gate) (d : Gate) (v : K) (answer : List K)
     → i < length gates → p < length nets → q ≡ p + 1 → r ≡ own_rows (get_or gates i d)
     → left ≡ drop (first_row gates i) rows → own ≡ take r left
     → v ≡ kind_value ops (kind_of (get_or gates i d)) (row_of ops own) (map (at ops.falsity (take p nets)) (net_list (get_or gates i d)))
-    → nets_from (gate_value ops rows) ops.falsity (first_row gates (i + 1)) (take q (set nets p v)) (drop (i + 1) gates)
-    ≡ nets_from (gate_value ops rows) ops.falsity (first_row gates i) (take p nets) (drop i gates)
-run_more ops rows left own nets p q i r gates d v l room e size behind cut given =
+    → nets_from (gate_value ops rows) ops.falsity (first_row gates i) (take p nets) (drop i gates) ≡ answer
+    → nets_from (gate_value ops rows) ops.falsity (first_row gates (i + 1)) (take q (set nets p v)) (drop (i + 1) gates) ≡ answer
+run_more ops rows left own nets p q i r gates d v answer l room e size behind cut given before =
     let value = gate_value ops rows in
     let z = ops.falsity in
     let gate = get_or gates i d in
@@ -69,7 +69,7 @@ run_more ops rows left own nets p q i r gates d v l room e size behind cut given
     ap (λ n. take n (set nets p v)) e ∙ take_more_set nets p v room ∙ ap (λ y. take p nets ++ y ∷ []) (given ∙ mine) in
     ap (λ vs. nets_from value z (first_row gates (i + 1)) vs (drop (i + 1) gates)) front
     ∙ ap (λ n. nets_from value z n (take p nets ++ x ∷ []) (drop (i + 1) gates)) (rows_next gates i (own_rows gate) d l refl).0
-    ∙ sym (ap (nets_from value z first (take p nets)) (drop_more gates i d l))
+    ∙ sym (ap (nets_from value z first (take p nets)) (drop_more gates i d l)) ∙ before
 
 -- the rows behind those of gate i
 pub left_more : {K : Type 0} (rows left rest : List K) (i r : ℕ) (gates : List Gate) (d : Gate) → i < length gates → r ≡ own_rows (get_or gates i d)

@@ -26,8 +26,8 @@ loop-i-preserved g c =
     let next : q ≡ p + 1 = omega arith in
     let room : p < length nets = omega arith in
     record {
-      run = run_more g.K.Algebra.ops c.args.rows.now c.loop-i.left.now c.split_at.result.0.now nets p q c.loop-i.i c.rows.result c.args.gates.now _ v
-          c.loop-i-test.true room next c.rows.ensures c.loop-i.invariant.left c.split_at.ensures.front c.gate_value.ensures ∙ c.loop-i.invariant.run;
+      run = run_more g.K.Algebra.ops c.args.rows.now c.loop-i.left.now c.split_at.result.0.now nets p q c.loop-i.i c.rows.result c.args.gates.now _ v _
+          c.loop-i-test.true room next c.rows.ensures c.loop-i.invariant.left c.split_at.ensures.front c.gate_value.ensures c.loop-i.invariant.run;
       kept = kept_more nets c.args.nets.now p q v next c.loop-i.invariant.kept;
       left = left_more c.args.rows.now c.loop-i.left.now c.split_at.result.1.now c.loop-i.i c.rows.result c.args.gates.now _
           c.loop-i-test.true c.rows.ensures c.loop-i.invariant.left c.split_at.ensures.back;

@@ -4,7 +4,7 @@ use Rattle.std.proofs.lemmas.Slice.Zip.{zip_turn}
 use Rattle.matching.specs.Blocks.{no_lanes}
 use Rattle.meaning.specs.Nets.{at}
 use Rattle.matching.proofs.Compare.{unequal_more}
-use Rattle.matching.proofs.matching.unequal.Goals as goal
+use Rattle.matching.proofs.comparison.unequal.Goals as goal
 
 pub loop-a-preserved : goal.loop-a-preserved
 loop-a-preserved c j =

@@ -1,7 +1,7 @@
 use Rattle.std.proofs.Common.{ℕ, ◌*◌, ◌<◌, ◌≤◌}
 use Rattle.circuit.specs.View.{drawn}
 use Rattle.meaning.specs.Meaning.{Matches}
-use Rattle.matching.proofs.matching.Comparison.lowest.Given as goal
+use Rattle.matching.proofs.comparison.Comparison.lowest.Given as goal
 
 -- no input word of the blocks so far is one at which the outputs differ
 abbrev pub invariant-loop-block : goal.invariant-loop-block

@@ -1,7 +1,7 @@
 -- The lanes of both runs hold the outputs, so comparing the lanes compares the outputs.
 use Rattle.circuit.specs.View.{drawn}
 use Rattle.matching.proofs.Compare.{lanes_compared}
-use Rattle.matching.proofs.matching.Comparison.differing.Goals as goal
+use Rattle.matching.proofs.comparison.Comparison.differing.Goals as goal
 
 pub returns : goal.returns
 returns c =

@@ -2,7 +2,7 @@
 use Rattle.circuit.specs.View.{drawn}
 use Rattle.meaning.specs.Meaning.{Matches}
 use Rattle.matching.proofs.Trailing.{none_in_block, lowest_in_block}
-use Rattle.matching.proofs.matching.Comparison.lowest_in_block.Goals as goal
+use Rattle.matching.proofs.comparison.Comparison.lowest_in_block.Goals as goal
 
 pub returns-then-lanes-eq0 : goal.returns-then-lanes-eq0
 returns-then-lanes-eq0 c =

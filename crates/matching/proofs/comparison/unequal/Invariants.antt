@@ -1,7 +1,7 @@
 use Rattle.std.proofs.Common.{◌≡◌, ℕ, not, map, length, take, Decides}
 use Rattle.meaning.specs.Meaning.{bit}
 use Rattle.matching.specs.Blocks.{net_bit}
-use Rattle.matching.proofs.matching.unequal.Given as goal
+use Rattle.matching.proofs.comparison.unequal.Given as goal
 
 -- the outputs so far, compared
 abbrev pub invariant-loop-a : goal.invariant-loop-a

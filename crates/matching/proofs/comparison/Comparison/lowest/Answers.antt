@@ -1,13 +1,13 @@
 -- Block by block: before the block there is none that differs, and the block is searched from `from` on.
 use Rattle.std.proofs.Common.{◌*◌, inl, inr, arith}
 use Rattle.std.proofs.lemmas.Bool.{cases_lt}
-use Rattle.matching.proofs.matching.Comparison.lowest.Goals as goal
+use Rattle.matching.proofs.comparison.Comparison.lowest.Goals as goal
 
 pub returns-then-found-end : goal.returns-then-found-end
 returns-then-found-end c =
     let first = c.in-Some.ensures in (
       omega arith,
-      c.if-found-end.true,
+      omega arith,
       first.2,
       λ w low high. elim (cases_lt w (64 * c.loop-block.block)) [ inl h ↦ c.loop-block.invariant w low h | inr h ↦ first.3 w (omega arith) high ],
     )
