@@ -1,4 +1,5 @@
-// Rows of values in counting order, and clauses put into memory. Neither allocates: the memory has room already.
+// Rows of values in counting order, and clauses put into memory.
+// Values and words are pushed one by one where there is room, since `resize` and `extend_from_slice` may ask for memory, and no call of an engine does.
 ghost use Rattle.std.specs.Prelude.{◌≡◌, ◌+◌, ◌≤◌, false, ◌∷◌, ◌++◌, length, replicate, vec_len, vec_capacity};
 ghost use Rattle.clause.specs.Memory.{head};
 ghost use Rattle.counting.specs.Rows.{next, some_false};

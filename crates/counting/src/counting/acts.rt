@@ -60,7 +60,7 @@ impl Engine for Counting {
     fn grow(&mut self, variables: usize) -> Result<(), Refusal> {
         self.control.may_grow(self.row.len(), variables)?;
         self.control.phase = Phase::Idle;
-        self.widen(variables);
+        rows::widen(&mut self.row, variables);
         Ok(())
     }
 
@@ -68,7 +68,7 @@ impl Engine for Counting {
         self.control
             .may_add(self.row.len(), self.words.len(), clause)?;
         self.control.phase = Phase::Idle;
-        self.store(clause);
+        rows::store(&mut self.words, clause);
         Ok(())
     }
 
@@ -101,28 +101,8 @@ impl Engine for Counting {
 }
 
 impl Counting {
-    /// So many variables more.
-    fn widen(&mut self, variables: usize)
-        requires idle { self.old.control.phase ≡ Idle }
-        requires room { vec_len self.old.row + variables ≤ self.old.control.places.variables }
-        ensures { view_of self.new ≡ idle_with (view_of self.old) (vec_len self.old.row + variables) (view_of self.old).clauses }
-    {
-        rows::widen(&mut self.row, variables);
-    }
-
-    /// Puts a clause last.
-    fn store(&mut self, clause: &[Literal])
-        requires idle { self.old.control.phase ≡ Idle }
-        requires inside { some_outside (vec_len self.old.row) clause.now ≡ false }
-        requires room { vec_len self.old.words + (length clause.now + 1) ≤ self.old.control.places.words }
-        ensures { view_of self.new ≡ idle_with (view_of self.old) (vec_len self.old.row) ((view_of self.old).clauses ++ clause.now ∷ []) }
-    {
-        rows::store(&mut self.words, clause);
-    }
-
     /// Begins a search, at the first row.
     fn begin(&mut self)
-        requires { self.old.control.phase ≡ Idle }
         ensures { Begun (view_of self.old) self.new }
     {
         self.row.fill(false);
@@ -138,21 +118,10 @@ impl Counting {
             self.control.phase = Phase::Model;
             return Answer::Model;
         }
-        self.go_on()
-    }
-
-    /// Goes on from a row that failed to the next, where there is one.
-    fn go_on(&mut self) -> Answer
-        requires searching { self.old.control.phase ≡ Searching }
-        requires fails { all_hold (row_of self.old) (view_of self.old).clauses ≡ false }
-        ensures { Tries (view_of self.old) result (view_of self.new) }
-    {
-        // Every row has failed, unless there is a next one.
-        self.control.phase = Phase::Unsatisfiable;
         if rows::count_up(&mut self.row) {
-            self.control.phase = Phase::Searching;
             return Answer::More;
         }
+        self.control.phase = Phase::Unsatisfiable;
         Answer::Unsatisfiable
     }
 }
