@@ -11,8 +11,11 @@ rows_sum [] = refl
 rows_sum (g ∷ gates) = sum_by-cons own_rows g gates ∙ ap (λ k. own_rows g + k) (rows_sum gates)
 
 -- and that of the first gates is no more
-pub rows_front : (gates : List Gate) (i : ℕ) → sum_by own_rows (take i gates) ≤ total_rows gates
-rows_front gates i = omega (arith, rows_sum gates, sum_by-take-le own_rows gates i)
+pub sum_front : (gates : List Gate) (i : ℕ) → sum_by own_rows (take i gates) ≤ total_rows gates
+sum_front gates i = omega (arith, rows_sum gates, sum_by-take-le own_rows gates i)
+
+pub rows_front : (gates : List Gate) (i : ℕ) → total_rows (take i gates) ≤ total_rows gates
+rows_front gates i = omega (arith, rows_sum (take i gates), sum_front gates i)
 
 -- one gate more from the front
 pub rows_more : (gates : List Gate) (i r : ℕ) (d : Gate) → i < length gates → r ≡ own_rows (get_or gates i d) →

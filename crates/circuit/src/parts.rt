@@ -16,7 +16,7 @@ impl Circuit {
     }
 
     /// The setting row that is the first of gate i, counted from 0; past the last gate, the number of setting rows.
-    #[tactic(auto, using(crate::proofs::Rows::rows_sum, crate::proofs::Rows::rows_front))]
+    #[tactic(auto, using(crate::proofs::Rows::rows_sum, crate::proofs::Rows::sum_front))]
     pub fn first_row(&self, i: usize) -> usize
         ensures { result ≡ first_row (drawn self.now).gates i }
     {
