@@ -6,7 +6,7 @@ ghost use Rattle.verify.specs.Count.{Counted};
 
 use anyhow::anyhow;
 use circuit::pair::Pair;
-use matching::matching::next_difference;
+use matching::differing::differences;
 use matching::outputs::outputs;
 use refusal::fault::Fault;
 use refusal::refusal::Refusal;
@@ -34,16 +34,10 @@ fn argument(rt: &HostRuntime) -> anyhow::Result<u64> {
 }
 
 /// How many input words give outputs that differ.
-fn count(pair: &Pair, setting: u64) -> Result<u64, Refusal>
+fn count(pair: &Pair, setting: u64) -> Result<usize, Refusal>
     ensures { Counted (drawn pair.now.target) (drawn pair.now.specification) setting result }
 {
-    let mut total = 0;
-    let mut from = 0;
-    while let Some(word) = next_difference(pair, setting, from)? {
-        total += 1;
-        from = word + 1;
-    }
-    Ok(total)
+    Ok(differences(pair, setting)?.count())
 }
 
 /// What the target gives at the word, and what the specification wants.
@@ -59,18 +53,15 @@ fn print_word(rt: &HostRuntime, pair: &Pair, setting: u64, word: u64) -> io::Res
 
 /// A line for each of the first differing words, in rising order.
 fn print_words(rt: &HostRuntime, pair: &Pair, setting: u64) -> io::Result<()> {
-    let mut from = 0;
-    for _ in 0..SHOWN {
-        let Ok(Some(word)) = next_difference(pair, setting, from) else {
-            break;
-        };
-        print_word(rt, pair, setting, word)?;
-        from = word + 1;
+    if let Ok(words) = differences(pair, setting) {
+        for word in words.take(SHOWN) {
+            print_word(rt, pair, setting, word)?;
+        }
     }
     Ok(())
 }
 
-fn print_verdict(rt: &HostRuntime, pair: &Pair, setting: u64, differing: u64) -> io::Result<()> {
+fn print_verdict(rt: &HostRuntime, pair: &Pair, setting: u64, differing: usize) -> io::Result<()> {
     let words = 1u64 << pair.target.inputs;
     if differing == 0 {
         return println!(rt; "setting {setting} matches at all {words} input words");
