@@ -1,45 +1,44 @@
 -- A fault of a sheet: a refusal with its place, and how the readers above add what they know of it.
-use Rattle.std.specs.Prelude.{ℕ, cond, List, ◌++◌, Ok, Err, codes, decimal, Result, ◌==◌}
+use Rattle.std.specs.Prelude.{ℕ, cond, List, ◌++◌, codes, decimal, ◌==◌}
 use Rattle.refusal.specs.declared.refusal.Refusal.{Refusal}
 use Rattle.refusal.specs.declared.fault.Fault.{Fault}
+use Rattle.refusal.specs.declared.role.Role.{Role}
+use Rattle.refusal.specs.declared.role.Role.TheVariants.{Alone, Target, Specification}
 use Rattle.refusal.specs.Numbers.{words_of}
+
+-- the number of a sheet in its pair
+abbrev pub role_number : Role → ℕ
+role_number Alone = 0
+role_number Target = 1
+role_number Specification = 2
+
+-- the sheet by name
+abbrev pub role_words : Role → List ℕ
+role_words Alone = codes "sheet"
+role_words Target = codes "target"
+role_words Specification = codes "specification"
 
 -- a refusal at a column of a row whose number, and whose sheet, the caller will add
 abbrev pub fault_at : Refusal → ℕ → Fault
-fault_at r c = record { refusal = r; sheet = 0; row = 0; column = c }
+fault_at r c = record { refusal = r; sheet = Alone; row = 0; column = c }
 
 -- the same fault, in a row of that number
 abbrev pub moved_to_row : ℕ → Fault → Fault
 moved_to_row k f = record { refusal = f.refusal; sheet = f.sheet; row = k; column = f.column }
 
--- the same fault, in a sheet of that number
-abbrev pub moved_to_sheet : ℕ → Fault → Fault
+-- the same fault, in that sheet
+abbrev pub moved_to_sheet : Role → Fault → Fault
 moved_to_sheet k f = record { refusal = f.refusal; sheet = k; row = f.row; column = f.column }
 
--- the same answer, with the error changed
-abbrev pub map_err : {X E F : Type 0} → (E → F) → Result X E → Result X F
-map_err move (Ok x) = Ok x
-map_err move (Err e) = Err (move e)
-
--- the same answer; a refusal is a fault at that column
-abbrev pub in_column : {X : Type 0} → ℕ → Result X Refusal → Result X Fault
-in_column c r = map_err (λ x. fault_at x c) r
-
--- the same answer; a fault is in that row
-abbrev pub in_row : {X : Type 0} → ℕ → Result X Fault → Result X Fault
-in_row k r = map_err (moved_to_row k) r
-
--- the same answer; a fault is in that sheet
-abbrev pub in_sheet : {X : Type 0} → ℕ → Result X Fault → Result X Fault
-in_sheet k r = map_err (moved_to_sheet k) r
-
--- the sheets of a pair by name
-abbrev pub sheet_words : ℕ → List ℕ
-sheet_words k = cond (k == 1) (codes "target") (cond (k == 2) (codes "specification") (codes "sheet"))
+-- words with the name of the sheet of a pair before them
+abbrev pub in_sheet_words : Role → List ℕ → List ℕ
+in_sheet_words Alone w = w
+in_sheet_words Target w = role_words Target ++ (codes ": " ++ w)
+in_sheet_words Specification w = role_words Specification ++ (codes ": " ++ w)
 
 -- a fault in plain words; one of the whole sheet is in no row, and a refusal that is no sheet's has its words alone
 abbrev pub fault_words : Fault → List ℕ
 fault_words f =
     cond (f.row == 0)
-    (cond (f.sheet == 0) (words_of f.refusal) (sheet_words f.sheet ++ (codes ": " ++ words_of f.refusal)))
-    (sheet_words f.sheet ++ (codes ", row " ++ (decimal f.row ++ (codes ", column " ++ (decimal f.column ++ (codes ": " ++ words_of f.refusal))))))
+    (in_sheet_words f.sheet (words_of f.refusal))
+    (role_words f.sheet ++ (codes ", row " ++ (decimal f.row ++ (codes ", column " ++ (decimal f.column ++ (codes ": " ++ words_of f.refusal))))))

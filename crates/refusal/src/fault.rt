@@ -1,17 +1,20 @@
 // A fault of a sheet: a refusal with its place. Readers pass it up by `?`, each adding what it knows.
-ghost use Rattle.std.specs.Prelude.{◌≡◌, ℕ, Some};
-ghost use Rattle.refusal.specs.Faults.{fault_at, in_column, in_row, in_sheet, fault_words, sheet_words};
+ghost use Rattle.std.specs.Prelude.{◌≡◌, Some};
+ghost use Rattle.refusal.specs.Faults.{fault_at, moved_to_row, moved_to_sheet, fault_words};
 ghost use Rattle.refusal.specs.Numbers.{number_of};
 
 use crate::refusal::Refusal;
+use crate::role::Role;
+use std::error::Error;
 use std::fmt;
 
-/// A refusal, and where: the sheet (1 target, 2 specification), its row from 1 and its column from 1.
-/// A number that is not known yet, or that does not apply, is 0.
-#[derive(Clone, Copy, Debug)]
+/// A refusal, and where: the sheet, its row from 1 and its column from 1.
+/// A row or a column that is not known yet, or that does not apply, is 0.
+// These two are no `Option`s: a fault's row of 32 bytes writes the very same 0, and rows and columns count from 1.
+#[derive(Clone, Copy, Debug, PartialEq, Eq)]
 pub struct Fault {
     pub refusal: Refusal,
-    pub sheet: u8,
+    pub sheet: Role,
     pub row: u16,
     pub column: u8,
 }
@@ -23,10 +26,24 @@ impl Fault {
     {
         Fault {
             refusal,
-            sheet: 0,
+            sheet: Role::Alone,
             row: 0,
             column,
         }
+    }
+
+    /// The same fault, in that row.
+    pub fn in_row(self, row: u16) -> Fault
+        ensures { result ≡ moved_to_row row self }
+    {
+        Fault { row, ..self }
+    }
+
+    /// The same fault, in that sheet.
+    pub fn in_sheet(self, sheet: Role) -> Fault
+        ensures { result ≡ moved_to_sheet sheet self }
+    {
+        Fault { sheet, ..self }
     }
 
     /// The refusal's number.
@@ -35,78 +52,29 @@ impl Fault {
     {
         self.refusal.number()
     }
+}
 
-    /// The sheet by name.
-    fn sheet_name(&self) -> &'static str
-        ensures { result.now ≡ sheet_words self.now.sheet }
-    {
-        match self.sheet {
-            1 => "target",
-            2 => "specification",
-            _ => "sheet",
-        }
+impl From<Refusal> for Fault {
+    ghost from_gives = { λ r f. f ≡ fault_at r 0 };
+
+    fn from(refusal: Refusal) -> Fault {
+        Fault::at(refusal, 0)
     }
 }
+
+impl Error for Fault {}
 
 impl fmt::Display for Fault {
     ghost output = { λ f. Some (fault_words f) };
 
     fn fmt<W: fmt::Write>(&self, f: &mut fmt::Formatter<W>) -> fmt::Result {
-        let sheet = self.sheet_name();
-        let words = self.refusal.words();
-        let row = self.row;
-        let column = self.column;
-        if row == 0 && self.sheet == 0 {
-            return f.write_str(words);
+        if self.row != 0 {
+            let (sheet, row, column) = (self.sheet, self.row, self.column);
+            return write!(f, "{sheet}, row {row}, column {column}: {}", self.refusal);
         }
-        if row == 0 {
-            return write!(f, "{sheet}: {words}");
-        }
-        write!(f, "{sheet}, row {row}, column {column}: {words}")
-    }
-}
-
-/// The same answer; a refusal is a fault at that column.
-pub fn in_column<T>(answer: Result<T, Refusal>, column: u8) -> Result<T, Fault>
-    ensures { result ≡ in_column column answer }
-{
-    match answer {
-        Ok(value) => Ok(value),
-        Err(refusal) => Err(Fault::at(refusal, column)),
-    }
-}
-
-/// What a reader answers, with the place that only its caller knows.
-pub trait Placed: Sized {
-    ghost rowed: { ℕ → Self → Self };
-
-    ghost sheeted: { ℕ → Self → Self };
-
-    /// The same answer; a fault is in that row.
-    fn in_row(self, row: u16) -> Self
-        ensures { result ≡ rowed row self };
-
-    /// The same answer; a fault is in that sheet.
-    fn in_sheet(self, sheet: u8) -> Self
-        ensures { result ≡ sheeted sheet self };
-}
-
-impl<T> Placed for Result<T, Fault> {
-    ghost rowed = { in_row };
-
-    ghost sheeted = { in_sheet };
-
-    fn in_row(self, row: u16) -> Self {
-        match self {
-            Ok(value) => Ok(value),
-            Err(fault) => Err(Fault { row, ..fault }),
-        }
-    }
-
-    fn in_sheet(self, sheet: u8) -> Self {
-        match self {
-            Ok(value) => Ok(value),
-            Err(fault) => Err(Fault { sheet, ..fault }),
+        match self.sheet {
+            Role::Alone => write!(f, "{}", self.refusal),
+            Role::Target | Role::Specification => write!(f, "{}: {}", self.sheet, self.refusal),
         }
     }
 }

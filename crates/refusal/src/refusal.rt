@@ -4,62 +4,63 @@ ghost use Rattle.refusal.specs.declared.refusal.Refusal.TheVariants.{NoMemory};
 ghost use Rattle.refusal.specs.Numbers.{number_of, words_of};
 
 use std::alloc::AllocError;
+use std::error::Error;
 use std::fmt;
 
-/// Every way in which a call of the product is refused.
-#[derive(Clone, Copy, Debug)]
+/// Every way in which a call of the product is refused, each with its number.
+#[derive(Clone, Copy, Debug, PartialEq, Eq)]
 pub enum Refusal {
     // What the input decides.
     /// A sheet's length is 0 or no multiple of a row's 32 bytes.
-    Length,
+    Length = 1,
     /// A row does not end in a line feed.
-    LineFeed,
+    LineFeed = 2,
     /// A row begins with a letter that may not stand there.
-    Letter,
+    Letter = 3,
     /// A field is neither blank nor a number in form, or is filled or blank wrongly.
-    FieldForm,
+    FieldForm = 4,
     /// A field's number is out of its range.
-    FieldRange,
+    FieldRange = 5,
     /// The sheet has not as many rows as its header says.
-    RowCount,
+    RowCount = 6,
     /// The tables' rows together pass 64.
-    TableBits,
+    TableBits = 7,
     /// Target and specification differ in their number of inputs or of outputs.
-    Unlike,
+    Unlike = 8,
     /// The budget is not between 1 and 1,000,000 steps.
-    Budget,
+    Budget = 9,
     /// There is no pattern of that number.
-    PatternNumber,
+    PatternNumber = 10,
     /// The input word has a bit that is no input's.
-    WordRange,
+    WordRange = 11,
     /// The setting has a bit that is no row's.
-    SettingRange,
+    SettingRange = 12,
     /// The destination is too short.
-    TooShort,
+    TooShort = 13,
     /// There are not as many values as the circuit takes.
-    ValueCount,
+    ValueCount = 14,
     /// There is no such variable.
-    VariableRange,
+    VariableRange = 15,
     // What the state decides.
     /// The session has not ended.
-    NotEnded,
+    NotEnded = 21,
     /// The session has ended.
-    Ended,
+    Ended = 22,
     /// All places for patterns are taken.
-    ListFull,
+    ListFull = 23,
     /// The engine's places do not hold the whole addition.
-    PlacesLacking,
+    PlacesLacking = 24,
     /// The engine's count of steps would pass its limit.
-    StepsSpent,
+    StepsSpent = 25,
     /// The engine is searching.
-    Searching,
+    Searching = 26,
     /// The engine is at no model.
-    NoModel,
+    NoModel = 27,
     /// No open has been taken yet.
-    NotOpened,
+    NotOpened = 28,
     // What the machine decides.
     /// There is no memory.
-    NoMemory,
+    NoMemory = 50,
 }
 
 impl Refusal {
@@ -67,32 +68,7 @@ impl Refusal {
     pub fn number(&self) -> u32
         ensures { result ≡ number_of self.now }
     {
-        match self {
-            Refusal::Length => 1,
-            Refusal::LineFeed => 2,
-            Refusal::Letter => 3,
-            Refusal::FieldForm => 4,
-            Refusal::FieldRange => 5,
-            Refusal::RowCount => 6,
-            Refusal::TableBits => 7,
-            Refusal::Unlike => 8,
-            Refusal::Budget => 9,
-            Refusal::PatternNumber => 10,
-            Refusal::WordRange => 11,
-            Refusal::SettingRange => 12,
-            Refusal::TooShort => 13,
-            Refusal::ValueCount => 14,
-            Refusal::VariableRange => 15,
-            Refusal::NotEnded => 21,
-            Refusal::Ended => 22,
-            Refusal::ListFull => 23,
-            Refusal::PlacesLacking => 24,
-            Refusal::StepsSpent => 25,
-            Refusal::Searching => 26,
-            Refusal::NoModel => 27,
-            Refusal::NotOpened => 28,
-            Refusal::NoMemory => 50,
-        }
+        *self as u32
     }
 
     /// What is wrong, in plain words.
@@ -135,6 +111,8 @@ impl fmt::Display for Refusal {
         f.write_str(self.words())
     }
 }
+
+impl Error for Refusal {}
 
 impl From<AllocError> for Refusal {
     ghost from_gives = { λ _ r. r ≡ NoMemory };
