@@ -32,7 +32,7 @@ pub fn fault_row(fault: &Fault) -> Row
         b'F',
         &[
             fault.number(),
-            u32::from(fault.sheet),
+            fault.sheet.number(),
             u32::from(fault.row),
             u32::from(fault.column),
         ],

@@ -11,7 +11,7 @@ use Rattle.layout.specs.Text.{blank, numeral, decoded, columns, field_value}
 use Rattle.circuit.specs.declared.gate.Gate.{Gate}
 use Rattle.circuit.specs.declared.gate.Kind.{Kind}
 use Rattle.circuit.specs.Gates.{own_rows}
-use Rattle.sheet_format.specs.declared.role.Role.{Role}
+use Rattle.refusal.specs.declared.role.Role.{Role}
 use Rattle.sheet_format.specs.Shapes.{gate_shape}
 use Rattle.sheet_format.specs.Decoding.{letter, fields_of, filled, numbers, kind_named, kind_in, gate_in, gate_from}
 use Rattle.sheet_format.specs.FirstFault.{field_fault, fields_fault, row_fault, gate_fault, names_gate, unless, first, well_formed, in_range}

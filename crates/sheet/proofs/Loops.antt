@@ -11,7 +11,7 @@ use Rattle.refusal.specs.Faults.{moved_to_row}
 use Rattle.circuit.specs.declared.gate.Gate.{Gate}
 use Rattle.circuit.specs.Gates.{own_rows, total_rows}
 use Rattle.circuit.proofs.Rows.{rows_push}
-use Rattle.sheet_format.specs.declared.role.Role.{Role}
+use Rattle.refusal.specs.declared.role.Role.{Role}
 use Rattle.sheet_format.specs.Decoding.{field, number, filled_below, fields_of, row_at, inputs_in, gates_in, gate_in, gates_read, outputs_read}
 use Rattle.sheet_format.specs.FirstFault.{or_else, first_below, at_row, field_fault, fields_fault, gate_fault, output_fault}
 use Rattle.sheet.proofs.Fields.{blank_is_0, at_most}

@@ -9,8 +9,8 @@ use Rattle.circuit.specs.declared.gate.Gate.{Gate}
 use Rattle.circuit.specs.declared.circuit.Circuit.{Circuit}
 use Rattle.circuit.specs.Gates.{Sheet, Lawful, Plain}
 use Rattle.circuit.specs.View.{drawn}
-use Rattle.sheet_format.specs.declared.role.Role.{Role}
-use Rattle.sheet_format.specs.declared.role.Role.TheVariants.{Alone, Target, Specification}
+use Rattle.refusal.specs.declared.role.Role.{Role}
+use Rattle.refusal.specs.declared.role.Role.TheVariants.{Alone, Target, Specification}
 use Rattle.sheet_format.specs.Rows.{size, rows, pair_rows}
 use Rattle.sheet_format.specs.Decoding.{row_at, gates_in, outputs_in, gates_read, outputs_read, sheet_in}
 use Rattle.sheet_format.specs.FirstFault.{whole_rows, header_fault, rows_counted, gates_fault, outputs_fault, sheet_fault, after_target, pair_fault}

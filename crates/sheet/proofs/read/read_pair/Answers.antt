@@ -3,7 +3,7 @@ use Rattle.std.proofs.Common.{◌≤◌, length, Some, sym, refl, ap, ◌∙◌}
 use Rattle.std.proofs.lemmas.Result.{err_from_is_err_and}
 use Rattle.refusal.specs.Faults.{moved_to_sheet}
 use Rattle.refusal.proofs.Mapped.{placed_ok, placed_err}
-use Rattle.sheet_format.specs.declared.role.Role.TheVariants.{Specification}
+use Rattle.refusal.specs.declared.role.Role.TheVariants.{Specification}
 use Rattle.sheet_format.specs.Decoding.{sheet_in}
 use Rattle.sheet_format.specs.FirstFault.{sheet_fault}
 use Rattle.sheet.proofs.Sheets.{target_within, after_is, in_target, in_specification, in_neither, pair_is, pair_refused}
