@@ -1,5 +1,5 @@
 -- What a gate reads, and what makes a circuit lawful.
-use Rattle.std.specs.Prelude.{◌≡◌, ℕ, ◌+◌, ◌^◌, ◌≤◌, List, [], ◌∷◌, length, take, count_by, nat_eq, slice_index_or}
+use Rattle.std.specs.Prelude.{◌≡◌, ℕ, ◌+◌, ◌^◌, ◌≤◌, List, [], ◌∷◌, ◌++◌, length, take, count_by, codes, decimal, nat_eq, sum_by, slice_index_or}
 use Rattle.circuit.specs.Kinds.{letter_of}
 use Rattle.circuit.specs.declared.gate.Inputs.{Inputs}
 use Rattle.circuit.specs.declared.gate.Inputs.TheVariants.{One, Two, Three, Four}
@@ -35,8 +35,7 @@ own_rows (Table t) = 2 ^ length (named t)
 
 -- the setting rows of all gates
 abbrev pub total_rows : List Gate → ℕ
-total_rows [] = 0
-total_rows (g ∷ gs) = own_rows g + total_rows gs
+total_rows gates = sum_by own_rows gates
 
 -- the setting row that is the first of gate i, counted from 0: the rows of the tables before it come first
 abbrev pub first_row : List Gate → ℕ → ℕ
@@ -84,3 +83,9 @@ pub record Lawful (s : Sheet) : Type 0 where
 -- no gate of it is a table
 abbrev pub Plain : Sheet → Type 0
 Plain s = total_rows s.gates ≡ 0
+
+-- nets as they are printed: their numbers, with a space between two
+abbrev pub in_words : List ℕ → List ℕ
+in_words [] = []
+in_words (a ∷ []) = decimal a
+in_words (a ∷ b ∷ rest) = decimal a ++ (codes " " ++ in_words (b ∷ rest))

@@ -1,5 +1,9 @@
 -- What a kind of gate is: its name, its letter in a sheet, how many inputs it takes, and its Boolean function.
-use Rattle.std.specs.Prelude.{ℕ, ◌+◌, ◌*◌, Bool, false, cond, not, ◌&&◌, ◌||◌, List, [], ◌∷◌, Some, None, codes, Option, ◌==◌, slice_index_or}
+use Rattle.std.specs.Prelude.{ℕ, ◌+◌, ◌*◌, Bool, false, cond, not, ◌&&◌, ◌||◌, List, [], ◌∷◌, codes, Option, Result, ◌==◌, slice_index_or}
+use Rattle.std.specs.List.{find}
+use Rattle.std.specs.Option.{ok_or}
+use Rattle.refusal.specs.declared.refusal.Refusal.{Refusal}
+use Rattle.refusal.specs.declared.refusal.Refusal.TheVariants.{Letter}
 use Rattle.circuit.specs.declared.gate.Unary.TheVariants.{Buffer, Inverter}
 use Rattle.circuit.specs.declared.gate.Binary.TheVariants.{And, Or, Xor, Nand, Nor, Xnor}
 use Rattle.circuit.specs.declared.gate.Kind.{Kind}
@@ -58,5 +62,8 @@ all_kinds =
 
 -- the kind among these whose letter it is
 abbrev pub kind_among : List Kind → ℕ → Option Kind
-kind_among [] x = None
-kind_among (k ∷ ks) x = cond (x == letter_of k) (Some k) (kind_among ks x)
+kind_among ks x = find (λ k. letter_of k == x) ks
+
+-- the kind that a letter names
+abbrev pub kind_lettered : ℕ → Result Kind Refusal
+kind_lettered x = ok_or (kind_among all_kinds x) Letter

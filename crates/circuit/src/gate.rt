@@ -1,17 +1,20 @@
 // Gates: what there is to wire up. `specs/Kinds.antt` says what each kind is.
-ghost use Rattle.std.specs.Prelude.{◌≡◌, ◌≤◌, length};
-ghost use Rattle.circuit.specs.Kinds.{name_of, letter_of, fewest_inputs, most_inputs};
-ghost use Rattle.circuit.specs.Gates.{kind_of, own_rows};
+ghost use Rattle.std.specs.Prelude.{◌≡◌, ◌≤◌, length, Some};
+ghost use Rattle.circuit.specs.Kinds.{name_of, letter_of, fewest_inputs, most_inputs, kind_lettered};
+ghost use Rattle.circuit.specs.Gates.{kind_of, own_rows, named, in_words};
+
+use refusal::refusal::Refusal;
+use std::fmt;
 
 /// A gate of one input.
-#[derive(Clone, Copy, Debug)]
+#[derive(Clone, Copy, Debug, PartialEq, Eq)]
 pub enum Unary {
     Buffer,
     Inverter,
 }
 
 /// A gate of two inputs.
-#[derive(Clone, Copy, Debug)]
+#[derive(Clone, Copy, Debug, PartialEq, Eq)]
 pub enum Binary {
     And,
     Or,
@@ -22,7 +25,7 @@ pub enum Binary {
 }
 
 /// The kinds of gate; a table has one to four inputs.
-#[derive(Clone, Copy, Debug)]
+#[derive(Clone, Copy, Debug, PartialEq, Eq)]
 pub enum Kind {
     Unary(Unary),
     Binary(Binary),
@@ -30,7 +33,7 @@ pub enum Kind {
 }
 
 /// The input nets of a table, the first the lowest bit of its row number.
-#[derive(Clone, Copy, Debug)]
+#[derive(Clone, Copy, Debug, PartialEq, Eq)]
 pub enum Inputs {
     One(u8),
     Two(u8, u8),
@@ -39,7 +42,7 @@ pub enum Inputs {
 }
 
 /// A gate with its input nets.
-#[derive(Clone, Copy, Debug)]
+#[derive(Clone, Copy, Debug, PartialEq, Eq)]
 pub enum Gate {
     Unary(Unary, u8),
     Binary(Binary, u8, u8),
@@ -112,6 +115,42 @@ impl Kind {
             Kind::Unary(_) => 1,
             Kind::Binary(_) => 2,
             Kind::Table => 4,
+        }
+    }
+}
+
+impl fmt::Display for Kind {
+    ghost output = { λ k. Some (name_of k) };
+
+    fn fmt<W: fmt::Write>(&self, f: &mut fmt::Formatter<W>) -> fmt::Result {
+        f.write_str(self.name())
+    }
+}
+
+/// The kind that a letter names; no other letter names one.
+impl TryFrom<u8> for Kind {
+    type Error = Refusal;
+
+    ghost try_from_gives = { λ x r. r ≡ kind_lettered x };
+
+    fn try_from(letter: u8) -> Result<Kind, Refusal> {
+        Kind::ALL
+            .iter()
+            .copied()
+            .find(|kind| kind.letter() == letter)
+            .ok_or(Refusal::Letter)
+    }
+}
+
+impl fmt::Display for Inputs {
+    ghost output = { λ t. Some (in_words (named t)) };
+
+    fn fmt<W: fmt::Write>(&self, f: &mut fmt::Formatter<W>) -> fmt::Result {
+        match self {
+            Inputs::One(a) => write!(f, "{a}"),
+            Inputs::Two(a, b) => write!(f, "{a} {b}"),
+            Inputs::Three(a, b, c) => write!(f, "{a} {b} {c}"),
+            Inputs::Four(a, b, c, d) => write!(f, "{a} {b} {c} {d}"),
         }
     }
 }
