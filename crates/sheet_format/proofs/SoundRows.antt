@@ -69,14 +69,14 @@ pub output_passed : (n : ℕ) (row : List ℕ) → length row ≡ 32 → output_
 output_passed n row e none = output_holds n row _ (row_passed _ _ row e none)
 
 -- the letter that names a kind is the kind's
-letter_here : (b : Bool) (k : Kind) (rest : Option Kind) (x : ℕ) → eqb x (letter_of k) ≡ b → (is_some rest ≡ true → letter_of (unwrap_or rest Table) ≡ x)
+letter_here : (b : Bool) (k : Kind) (rest : Option Kind) (x : ℕ) → eqb (letter_of k) x ≡ b → (is_some rest ≡ true → letter_of (unwrap_or rest Table) ≡ x)
     → is_some (cond b (Some k) rest) ≡ true → letter_of (unwrap_or (cond b (Some k) rest) Table) ≡ x
-letter_here true k rest x is later e = sym (eqb-true x (letter_of k) is)
+letter_here true k rest x is later e = eqb-true (letter_of k) x is
 letter_here false k rest x is later e = later e
 
 pub letter_named : (ks : List Kind) (x : ℕ) → is_some (kind_among ks x) ≡ true → letter_of (unwrap_or (kind_among ks x) Table) ≡ x
 letter_named [] x e = let no : ◌≡◌ {A = ℕ} 0 1 = cc in absurd (omega arith)
-letter_named (k ∷ ks) x e = letter_here (eqb x (letter_of k)) k (kind_among ks x) x refl (letter_named ks x) e
+letter_named (k ∷ ks) x e = letter_here (eqb (letter_of k) x) k (kind_among ks x) x refl (letter_named ks x) e
 
 -- how many inputs a kind takes
 unary_takes : (u : Unary) → (fewest_inputs (kinds.TheVariants.Unary u) ≡ 1) × (most_inputs (kinds.TheVariants.Unary u) ≡ 1)
