@@ -6,4 +6,3 @@ mod parts;
 pub mod read;
 pub mod room;
 mod rows;
-pub mod write;

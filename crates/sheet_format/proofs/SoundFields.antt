@@ -97,6 +97,8 @@ pub record Holds (s : Shape) (text : List ℕ) (k : ℕ) : Type 0 where
   pub needed : s.needed ≤ 6 → s.needed ≤ k
   pub allowed : k ≤ s.allowed
   pub within : k ≤ 6
+  pub some : (j : ℕ) → j < k → blank (field j text) ≡ false
+  pub none : (j : ℕ) → j < 6 → k ≤ j → blank (field j text) ≡ true
   pub written : (j : ℕ) → j < 6 → field j text ≡ columns (slice_get (take k (numbers text)) j)
   pub low : (j : ℕ) → j < k → lowest s j ≤ get_or (numbers text) j 0
   pub high : (j : ℕ) → j < k → get_or (numbers text) j 0 ≤ highest s j
@@ -134,6 +136,11 @@ holds s text k few all =
         | inr l ↦ omega arith
       ];
       within = few;
+      some = λ j l. (front j l).some;
+      none = λ j l m. elim (all j l) [
+        | inl f ↦ absurd (omega (arith, f.0))
+        | inr f ↦ f.1.none
+      ];
       written = λ j l. elim (all j l) [
         | inl f ↦ f.1.written ∙ ap columns (ap Some (sym (numbers_at text j l)) ∙ sym (nth_front (numbers text) k j 0 l f.0))
         | inr f ↦ f.1.written ∙ ap columns (sym (nth_beyond (numbers text) k j f.0))
