@@ -1,5 +1,5 @@
 -- The fault of a gate's row, and the gate that it says.
-use Rattle.std.proofs.Common.{◌≡◌, ℕ, zero, suc, ◌+◌, ◌<◌, ◌≤◌, true, List, length, get_or, Some, None, Option, sym, ap, ◌∙◌, arith}
+use Rattle.std.proofs.Common.{◌≡◌, ℕ, zero, suc, ◌+◌, ◌<◌, ◌≤◌, true, List, get_or, Some, None, Option, sym, ap, ◌∙◌, arith}
 use Rattle.std.proofs.lemmas.Bool.{lt-leb, le-leb}
 use Rattle.refusal.specs.declared.refusal.Refusal.TheVariants.{TableBits}
 use Rattle.refusal.specs.declared.fault.Fault.{Fault}
@@ -49,10 +49,10 @@ gate_fields own kind text fields few none are =
       most = h.allowed;
       nets = λ j l. omega (arith, h.within, h.high j l, net j (omega (arith, h.within)));
     }
-    where
-      high : (j : ℕ) → j < 6 → highest (gate_shape own kind) j ≤ 255
-      high zero l = omega arith
-      high (suc j) l = rw (input_bounds own kind j (omega arith)).1 (omega arith)
+  where
+    high : (j : ℕ) → j < 6 → highest (gate_shape own kind) j ≤ 255
+    high zero l = omega arith
+    high (suc j) l = rw (input_bounds own kind j (omega arith)).1 (omega arith)
 
 -- a gate's row, by what was read of it: its letter, and the letter's kind
 module _ (role : Role) (own before : ℕ) (row : List ℕ) (kind : Kind) (l : ℕ)

@@ -4,3 +4,4 @@ pub mod Loops
 pub mod Told
 pub mod GateRow
 pub mod Sheets
+pub mod Laid

@@ -1,9 +1,8 @@
 -- What the loops of the readers keep, and one turn more.
-use Rattle.std.proofs.Common.{◌≡◌, ℕ, zero, suc, ◌+◌, ◌-◌, ◌*◌, ◌/◌, ◌%◌, ◌<◌, ◌≤◌, Bool, true, false, cond, ◌≢◌, List, [], ◌∷◌, ◌++◌, map, length, get_or, take, drop, set, is_some, Some, None, Option, sym, refl, ap, ◌∙◌, subst, ⊎_elim, add-zero, add-suc, add-one, arith, drop-drop, below_more}
+use Rattle.std.proofs.Common.{◌≡◌, ℕ, zero, suc, ◌+◌, ◌-◌, ◌*◌, ◌/◌, ◌%◌, ◌<◌, ◌≤◌, Bool, true, false, cond, ◌≢◌, List, [], ◌∷◌, ◌++◌, map, length, get_or, take, drop, set, is_some, Some, None, Option, sym, refl, ap, ◌∙◌, subst, add-zero, add-suc, add-one, arith, drop-drop, below_more}
 use mir.Val.{bool_byte}
 use Rattle.std.specs.Simd.{first_chunks}
 use Rattle.std.proofs.lemmas.List.{take_all, take_more, map-append, length-set, length-take, length-drop, get_or-set_same, get_or-set_other}
-use Rattle.std.proofs.lemmas.Bool.{cases_lt}
 use Rattle.std.proofs.lemmas.List.FromFn.{fill_by_all}
 use Rattle.refusal.specs.declared.fault.Fault.{Fault}
 use Rattle.refusal.specs.declared.role.Role.{Role}
@@ -12,7 +11,7 @@ use Rattle.circuit.specs.declared.gate.Gate.{Gate}
 use Rattle.circuit.specs.Gates.{own_rows, total_rows}
 use Rattle.circuit.proofs.Rows.{rows_push}
 use Rattle.layout.specs.declared.shape.Shape.{Shape}
-use Rattle.layout.specs.Text.{blank, decoded}
+use Rattle.layout.specs.Text.{blank}
 use Rattle.sheet_format.specs.Decoding.{field, fields_of, filled_below, gate_in}
 use Rattle.sheet_format.specs.FirstFault.{first_below, at_row, field_fault, fields_fault, gate_fault, output_fault}
 use Rattle.sheet.specs.Parts.{IsRows, field_option, options, gates_fault_in, outputs_fault_in, net_in}

@@ -1,5 +1,5 @@
 -- What `map_err` was asked of.
-use Rattle.std.proofs.Common.{◌≡◌, Bool, false, Ok, Err, Result, refl}
+use Rattle.std.proofs.Common.{◌≡◌, false, Ok, Err, Result, refl}
 use Rattle.std.specs.Result.{is_ok}
 
 -- what is no value is an error

@@ -210,8 +210,8 @@ module _ (t : List ℕ) (c : Circuit) (e : sheet_fault Target t ≡ None) (is_c 
   pub target_within : length (rows (drawn c)) ≤ length t
   target_within = front_within t (rows (drawn c)) (after_target t) ((sound Target t e).written ∙ ap (λ s. rows s ++ after_target t) (sym is_c))
 
-  pub after_is : (part : List ℕ) (n : ℕ) → n ≡ length (rows (drawn c)) → part ≡ take (length t - n) (drop n t) → part ≡ after_target t
-  after_is part n is_n is_part =
+  pub after_is : (left : List ℕ) (n : ℕ) → n ≡ length (rows (drawn c)) → left ≡ take (length t - n) (drop n t) → left ≡ after_target t
+  after_is left n is_n is_part =
       is_part ∙ take_rest t n
       ∙ ap (λ k. drop k t)
       (is_n ∙ length_rows (drawn c) ∙ ap (λ g. size g (length (vec_items c.outputs))) (ap (λ s. length s.gates) is_c ∙ gates_length t (gates_in t))

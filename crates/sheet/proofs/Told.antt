@@ -1,18 +1,18 @@
 -- What a row says, where it has no fault.
-use Rattle.std.proofs.Common.{◌≡◌, ℕ, zero, suc, ◌+◌, ◌<◌, ◌≤◌, ltb, Bool, List, ◌∷◌, [], get_or, length, cond, Some, None, Option, sym, ◌∙◌, arith}
+use Rattle.std.proofs.Common.{◌≡◌, ℕ, zero, suc, ◌<◌, ◌≤◌, ltb, Bool, List, get_or, length, cond, Some, None, Option, ◌∙◌, arith}
 use Rattle.std.proofs.lemmas.Bool.{cases_lt, lt-ltb, le-ltb}
 use Rattle.std.proofs.Common.{inl, inr}
 use Rattle.std.specs.Option.{IsSomeAnd}
 use Rattle.std.proofs.lemmas.List.FromFn.{get_or-map-range_with_len}
 use Rattle.layout.specs.declared.shape.Shape.{Shape}
 use Rattle.layout.specs.Text.{blank, decoded}
-use Rattle.sheet_format.specs.Decoding.{fields_of, field, filled, number, numbers}
-use Rattle.sheet_format.specs.FirstFault.{row_fault, header_fault, output_fault}
-use Rattle.sheet_format.proofs.SoundRow.{RowHolds, row_passed}
+use Rattle.sheet_format.specs.Decoding.{fields_of, field, number, numbers}
+use Rattle.sheet_format.specs.FirstFault.{header_fault, output_fault}
+use Rattle.sheet_format.proofs.SoundRow.{row_passed}
 use Rattle.sheet_format.specs.Shapes.{header_shape, output_shape}
 use Rattle.sheet_format.proofs.SoundFields.{Holds}
 use Rattle.sheet_format.proofs.SoundRows.{header_passed, output_passed}
-use Rattle.sheet.specs.Parts.{field_option, option_at, options, first_filled, Headed}
+use Rattle.sheet.specs.Parts.{field_option, options, first_filled, Headed}
 
 -- a field is filled with its number, or blank
 by_blank : (x : List ℕ) (b : Bool) → blank x ≡ b → field_option x ≡ cond b None (Some (decoded x))

@@ -6,3 +6,4 @@ mod parts;
 pub mod read;
 pub mod room;
 mod rows;
+pub mod write;

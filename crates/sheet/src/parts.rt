@@ -45,7 +45,10 @@ fn shape_of_gate(own: u32, kind: Kind) -> Shape
     requires { 1 ≤ own }
     ensures { result ≡ gate_shape own kind }
 {
-    let itself = Bounds { low: own, high: own };
+    let itself = Bounds {
+        low: own,
+        high: own,
+    };
     let below = Bounds {
         low: 1,
         high: own - 1,

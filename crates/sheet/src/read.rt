@@ -117,12 +117,13 @@ pub fn read_pair(room: PairRoom, bytes: &[u8]) -> Result<Pair, Fault>
         target,
         specification,
     } = room;
-    let target =
-        read_part(bytes, Role::Target, target).map_err(|fault| fault.in_sheet(Role::Target))?;
+    let target = read_part(bytes, Role::Target, target).map_err(|fault| fault.in_sheet(
+        Role::Target,
+    ))?;
     let start = sheet_length(&target);
-    let specification =
-        read_part(&bytes[start..], Role::Specification, specification)
-            .map_err(|fault| fault.in_sheet(Role::Specification))?;
+    let specification = read_part(&bytes[start..], Role::Specification, specification).map_err(
+        |fault| fault.in_sheet(Role::Specification),
+    )?;
     Ok(Pair {
         target,
         specification,
