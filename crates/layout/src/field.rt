@@ -57,21 +57,15 @@ fn weighed(columns: Columns) -> u32
     digit(a) * 10000 + digit(b) * 1000 + digit(c) * 100 + digit(d) * 10 + digit(e)
 }
 
-fn same(a: Columns, b: Columns) -> bool
-    ensures { result ≡ bytes_eq a b }
-{
-    a == b
-}
-
 /// What five columns hold: nothing, or a number. They are a number's exactly where writing it gives them again.
 pub fn read_columns(text: Columns) -> Result<Option<u32>, Refusal>
     ensures { result ≡ field_value text }
 {
-    if same(text, *b"     ") {
+    if text == *b"     " {
         return Ok(None);
     }
     let n = weighed(text);
-    if same(text, number_columns(n)) {
+    if text == number_columns(n) {
         Ok(Some(n))
     } else {
         Err(Refusal::FieldForm)

@@ -3,37 +3,25 @@ ghost use Rattle.std.specs.Prelude.{◌≡◌};
 ghost use Rattle.std.specs.List.{slice_get};
 ghost use Rattle.layout.specs.Text.{columns, row_text, fault_text};
 
-use crate::field::{Columns, field_columns};
+use crate::field::field_columns;
 use refusal::fault::Fault;
 
 /// A row's 32 bytes.
 pub type Row = [u8; 32];
 
-/// The columns of the field that holds number j, counted from 0; blank where there is none.
-fn columns_at(numbers: &[u32], j: usize) -> Columns
-    ensures { result ≡ columns (slice_get numbers.now j) }
-{
-    if j < numbers.len() {
-        field_columns(Some(numbers[j]))
-    } else {
-        field_columns(None)
-    }
-}
-
 /// The row of a letter and numbers, the first six of which stand in the fields.
 pub fn row_text(letter: u8, numbers: &[u32]) -> Row
     ensures { result ≡ row_text letter numbers.now }
 {
-    let [a1, a2, a3, a4, a5] = columns_at(numbers, 0);
-    let [b1, b2, b3, b4, b5] = columns_at(numbers, 1);
-    let [c1, c2, c3, c4, c5] = columns_at(numbers, 2);
-    let [d1, d2, d3, d4, d5] = columns_at(numbers, 3);
-    let [e1, e2, e3, e4, e5] = columns_at(numbers, 4);
-    let [f1, f2, f3, f4, f5] = columns_at(numbers, 5);
-    [
-        letter, a1, a2, a3, a4, a5, b1, b2, b3, b4, b5, c1, c2, c3, c4, c5, d1, d2, d3, d4, d5, e1,
-        e2, e3, e4, e5, f1, f2, f3, f4, f5, b'\n',
-    ]
+    let mut row = [b' '; 32];
+    row[0] = letter;
+    row[31] = b'\n';
+    let shown = &numbers[..numbers.len().min(6)];
+    for (j, number) in shown.iter().enumerate() {
+        let columns = field_columns(Some(*number));
+        row[5 * j + 1..5 * j + 6].copy_from_slice(&columns);
+    }
+    row
 }
 
 /// The row of a fault: F with its number, sheet, row and column.

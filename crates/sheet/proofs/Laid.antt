@@ -1,13 +1,13 @@
 -- Texts laid over a buffer, one after another.
-use Rattle.std.proofs.Common.{◌≡◌, ℕ, ◌+◌, ◌*◌, ◌<◌, ◌≤◌, List, [], ◌∷◌, ◌++◌, length, get_or, take, drop, sym, ap, ◌∙◌, arith, drop-drop}
+use Rattle.std.proofs.Common.{◌≡◌, ℕ, ◌+◌, ◌*◌, ◌<◌, ◌≤◌, List, [], ◌∷◌, ◌++◌, length, get_or, take, drop, sym, refl, ap, ◌∙◌, arith, drop-drop}
 use borrow.Rule.Slice.PartMut.{put_mid}
 use Rattle.std.proofs.lemmas.List.{append_assoc, append-nil, length-append, length-take, length-take-le, length-drop, take_at, drop_at, take-append-drop, take_more}
 use Rattle.circuit.specs.declared.gate.Gate.{Gate}
 use Rattle.circuit.specs.Gates.{Sheet}
 use Rattle.layout.specs.Text.{row_text}
-use Rattle.sheet_format.specs.Rows.{rows, pair_rows, header_text, gate_text, gate_texts, output_text, output_texts}
-use Rattle.sheet_format.proofs.CompleteRows.{length_gate_texts, length_output_texts, length_rows}
-use Rattle.sheet.specs.Written.{laid}
+use Rattle.sheet_format.specs.Rows.{rows, header_text, gate_text, gate_texts, output_text, output_texts}
+use Rattle.sheet_format.proofs.CompleteRows.{length_gate_texts, length_rows}
+use Rattle.sheet.specs.Written.{laid, texts}
 
 -- a part that was written over
 pub part_laid : (a k : ℕ) (xs ys row : List ℕ) → ys ≡ row → k ≡ length row → put_mid a k xs ys ≡ laid xs a row
@@ -36,40 +36,39 @@ laid_more b at n x y h e =
 pub laid_none : (b : List ℕ) (at : ℕ) → at ≤ length b → laid b at [] ≡ b
 laid_none b at h = let z : at + 0 ≡ at = omega arith in ap (λ k. take at b ++ drop k b) z ∙ take-append-drop at b
 
--- a gate's row more
-gate_texts_push : (own : ℕ) (gs : List Gate) (g : Gate) → gate_texts own (gs ++ g ∷ []) ≡ gate_texts own gs ++ gate_text (own + length gs) g
-gate_texts_push own [] g = let z : own + 0 ≡ own = omega arith in append-nil (gate_text own g) ∙ ap (λ n. gate_text n g) (sym z)
-gate_texts_push own (x ∷ gs) g =
-    let z : own + 1 + length gs ≡ own + length (x ∷ gs) = omega arith in
-    ap (λ r. gate_text own x ++ r) (gate_texts_push (own + 1) gs g ∙ ap (λ n. gate_texts (own + 1) gs ++ gate_text n g) z)
-    ∙ sym (append_assoc (gate_text own x) (gate_texts (own + 1) gs) (gate_text (own + length (x ∷ gs)) g))
+-- the text of an item more
+texts_push : {X : Type 0} (text : ℕ → X → List ℕ) (k : ℕ) (xs : List X) (x : X) → texts text k (xs ++ x ∷ []) ≡ texts text k xs ++ text (k + length xs) x
+texts_push text k [] x = let z : k + 0 ≡ k = omega arith in append-nil (text k x) ∙ ap (λ n. text n x) (sym z)
+texts_push text k (y ∷ xs) x =
+    let z : k + 1 + length xs ≡ k + length (y ∷ xs) = omega arith in
+    ap (λ r. text k y ++ r) (texts_push text (k + 1) xs x ∙ ap (λ n. texts text (k + 1) xs ++ text n x) z)
+    ∙ sym (append_assoc (text k y) (texts text (k + 1) xs) (text (k + length (y ∷ xs)) x))
 
--- an output's row more
-output_texts_push : (qs : List ℕ) (q : ℕ) → output_texts (qs ++ q ∷ []) ≡ output_texts qs ++ output_text q
-output_texts_push [] q = append-nil (output_text q)
-output_texts_push (x ∷ qs) q =
-    ap (λ r. output_text x ++ r) (output_texts_push qs q) ∙ sym (append_assoc (output_text x) (output_texts qs) (output_text q))
+-- one turn: with the rows so far laid over b, one more row right after them
+pub rows_turn : {X : Type 0} (text : ℕ → X → List ℕ) (b c : List ℕ) (at i : ℕ) (xs : List X) (x : X) (row : List ℕ)
+    → at + 32 * length xs ≤ length b → i < length xs → x ≡ get_or xs i x → length row ≡ 32 → row ≡ text i x
+    → (c ≡ laid b at (texts text 0 (take i xs))) × (length (texts text 0 (take i xs)) ≡ 32 * i)
+    → (laid c (at + 32 * i) row ≡ laid b at (texts text 0 (take (i + 1) xs))) × (length (texts text 0 (take (i + 1) xs)) ≡ 32 * (i + 1))
+rows_turn text b c at i xs x row room l is_x long is_row before =
+    let so_far = texts text 0 (take i xs) in
+    let k : 0 + length (take i xs) ≡ i = omega (arith, length-take-le i xs (omega arith)) in
+    let more : texts text 0 (take (i + 1) xs) ≡ so_far ++ row =
+    ap (texts text 0) (take_more xs i x l) ∙ texts_push text 0 (take i xs) (get_or xs i x)
+    ∙ ap (λ z. so_far ++ z) ((λ j. text (k j) (sym is_x j)) ∙ sym is_row) in (
+      ap (λ z. laid z (at + 32 * i) row) before.0 ∙ laid_more b at (at + 32 * i) so_far row (omega arith) (omega arith) ∙ ap (laid b at) (sym more),
+      omega (arith, ap length more, length-append so_far row),
+    )
 
--- the loops' turns: with the rows so far laid over b, and one more row right after them
-pub gate_turn : (b c : List ℕ) (at own i n : ℕ) (gs : List Gate) (d : Gate) (row : List ℕ) → at + 32 * length gs ≤ length b → i < length gs →
-    c ≡ laid b at (gate_texts own (take i gs)) → n ≡ at + 32 * i → row ≡ gate_text (own + i) (get_or gs i d) →
-    laid c n row ≡ laid b at (gate_texts own (take (i + 1) gs))
-gate_turn b c at own i n gs d row h l e p r =
-    let k : length (take i gs) ≡ i = length-take-le i gs (omega arith) in
-    let m : length (gate_texts own (take i gs)) ≡ 32 * i = length_gate_texts own (take i gs) ∙ ap (λ x. 32 * x) k in
-    ap (λ z. laid z n row) e ∙ laid_more b at n (gate_texts own (take i gs)) row (omega arith) (omega arith)
-    ∙ ap (λ z. laid b at (gate_texts own (take i gs) ++ z)) (r ∙ ap (λ z. gate_text (own + z) (get_or gs i d)) (sym k))
-    ∙ ap (laid b at) (sym (ap (gate_texts own) (take_more gs i d l) ∙ gate_texts_push own (take i gs) (get_or gs i d)))
+-- the rows of gates from net `own` on, and of outputs
+gates_are : (own k : ℕ) (gs : List Gate) → texts (λ i g. gate_text (own + i) g) k gs ≡ gate_texts (own + k) gs
+gates_are own k [] = refl
+gates_are own k (g ∷ gs) =
+    let e : own + (k + 1) ≡ own + k + 1 = omega arith in
+    ap (λ z. gate_text (own + k) g ++ z) (gates_are own (k + 1) gs ∙ ap (λ n. gate_texts n gs) e)
 
-pub output_turn : (b c : List ℕ) (at j n : ℕ) (qs row : List ℕ) → at + 32 * length qs ≤ length b → j < length qs →
-    c ≡ laid b at (output_texts (take j qs)) → n ≡ at + 32 * j → row ≡ output_text (get_or qs j 0) →
-    laid c n row ≡ laid b at (output_texts (take (j + 1) qs))
-output_turn b c at j n qs row h l e p r =
-    let k : length (take j qs) ≡ j = length-take-le j qs (omega arith) in
-    let m : length (output_texts (take j qs)) ≡ 32 * j = length_output_texts (take j qs) ∙ ap (λ x. 32 * x) k in
-    ap (λ z. laid z n row) e ∙ laid_more b at n (output_texts (take j qs)) row (omega arith) (omega arith)
-    ∙ ap (λ z. laid b at (output_texts (take j qs) ++ z)) r
-    ∙ ap (laid b at) (sym (ap output_texts (take_more qs j 0 l) ∙ output_texts_push (take j qs) (get_or qs j 0)))
+outputs_are : (k : ℕ) (qs : List ℕ) → texts (λ i q. output_text q) k qs ≡ output_texts qs
+outputs_are k [] = refl
+outputs_are k (q ∷ qs) = ap (λ z. output_text q ++ z) (outputs_are (k + 1) qs)
 
 -- the parts of a circuit's rows fit where its rows do
 pub parts_fit : (s : Sheet) (at n : ℕ) (gs : List Gate) (qs : List ℕ) → at + length (rows s) ≤ n → gs ≡ s.gates → qs ≡ s.outputs → at + 32 + 32 * length gs + 32 * length qs ≤ n
@@ -77,8 +76,8 @@ parts_fit s at n gs qs h e f = omega (arith, length_rows s, ap length e, ap leng
 
 -- the header, the gates and the outputs, laid one after another
 pub sheet_laid : (b header c d e : List ℕ) (at : ℕ) (s : Sheet) (gs : List Gate) (qs : List ℕ) → at + length (rows s) ≤ length b → gs ≡ s.gates → qs ≡ s.outputs →
-    header ≡ row_text 72 (s.inputs ∷ length gs ∷ length qs ∷ []) → c ≡ laid b at header → d ≡ laid c (at + 32) (gate_texts (s.inputs + 1) gs) →
-    e ≡ laid d (at + 32 + 32 * length gs) (output_texts qs) → e ≡ laid b at (rows s)
+    header ≡ row_text 72 (s.inputs ∷ length gs ∷ length qs ∷ []) → c ≡ laid b at header → d ≡ laid c (at + 32) (texts (λ i g. gate_text (s.inputs + 1 + i) g) 0 gs) →
+    e ≡ laid d (at + 32 + 32 * length gs) (texts (λ i q. output_text q) 0 qs) → e ≡ laid b at (rows s)
 unfolding rows
 sheet_laid b header c d e at s gs qs h is_gs is_qs is_header is_c is_d is_e =
     let fit = parts_fit s at (length b) gs qs h is_gs is_qs in
@@ -86,19 +85,14 @@ sheet_laid b header c d e at s gs qs h is_gs is_qs is_header is_c is_d is_e =
     let q = output_texts qs in
     let long : length header ≡ 32 = ap length is_header in
     let more : length g ≡ 32 * length gs = length_gate_texts (s.inputs + 1) gs in
-    let one : d ≡ laid b at (header ++ g) = is_d ∙ ap (λ z. laid z (at + 32) g) is_c ∙ laid_more b at (at + 32) header g (omega arith) (omega arith) in
+    let own : s.inputs + 1 + 0 ≡ s.inputs + 1 = omega arith in
+    let gates : d ≡ laid c (at + 32) g = is_d ∙ ap (laid c (at + 32)) (gates_are (s.inputs + 1) 0 gs ∙ ap (λ n. gate_texts n gs) own) in
+    let outputs : e ≡ laid d (at + 32 + 32 * length gs) q = is_e ∙ ap (laid d (at + 32 + 32 * length gs)) (outputs_are 0 qs) in
+    let one : d ≡ laid b at (header ++ g) = gates ∙ ap (λ z. laid z (at + 32) g) is_c ∙ laid_more b at (at + 32) header g (omega arith) (omega arith) in
     let two : e ≡ laid b at ((header ++ g) ++ q) =
-    is_e ∙ ap (λ z. laid z (at + 32 + 32 * length gs) q) one
+    outputs ∙ ap (λ z. laid z (at + 32 + 32 * length gs) q) one
     ∙ laid_more b at (at + 32 + 32 * length gs) (header ++ g) q (omega (arith, length-append header g)) (omega (arith, length-append header g)) in
     two ∙ ap (laid b at) (append_assoc header g q)
     ∙ ap (λ z. laid b at (z ++ (g ++ q))) (is_header ∙ ap (λ z. row_text 72 (s.inputs ∷ length z ∷ length qs ∷ [])) is_gs ∙ ap (λ z. row_text 72 (s.inputs ∷ length s.gates ∷ length z ∷ [])) is_qs)
     ∙ ap (λ z. laid b at (header_text s ++ (gate_texts (s.inputs + 1) z ++ q))) is_gs
     ∙ ap (λ z. laid b at (header_text s ++ (gate_texts (s.inputs + 1) s.gates ++ output_texts z))) is_qs
-
--- a target and its specification, laid one after the other from the buffer's start
-pub pair_laid : (b c d : List ℕ) (n : ℕ) (x y : Sheet) → length (pair_rows x y) ≤ length b → c ≡ laid b 0 (rows x) → n ≡ length (rows x) → d ≡ laid c n (rows y) →
-    (m : ℕ) → m ≡ length (pair_rows x y) → d ≡ pair_rows x y ++ drop m b
-pair_laid b c d n x y h is_c is_n is_d m is_m =
-    let z : 0 + length (pair_rows x y) ≡ m = omega arith in
-    is_d ∙ ap (λ w. laid w n (rows y)) is_c ∙ laid_more b 0 n (rows x) (rows y) (omega (arith, length-append (rows x) (rows y))) (omega arith)
-    ∙ ap (λ k. pair_rows x y ++ drop k b) z

@@ -1,5 +1,7 @@
+pub mod Mapped
 pub mod Fields
-pub mod Texts
 pub mod Loops
+pub mod Told
+pub mod GateRow
 pub mod Sheets
 pub mod Laid

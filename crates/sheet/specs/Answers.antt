@@ -7,7 +7,7 @@ use Rattle.circuit.specs.declared.circuit.Circuit.{Circuit}
 use Rattle.circuit.specs.declared.pair.Pair.{Pair}
 use Rattle.circuit.specs.Gates.{Sheet, Lawful, Plain}
 use Rattle.circuit.specs.View.{drawn}
-use Rattle.sheet_format.specs.declared.role.Role.TheVariants.{Alone}
+use Rattle.refusal.specs.declared.role.Role.TheVariants.{Alone}
 use Rattle.sheet_format.specs.Rows.{rows, pair_rows}
 use Rattle.sheet_format.specs.FirstFault.{sheet_fault, pair_fault}
 use Rattle.sheet_format.specs.Laws.{RowsOf, PairOf}

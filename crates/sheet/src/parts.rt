@@ -1,5 +1,5 @@
 // The rows of a sheet by what they say: its header, a gate, an output.
-ghost use Rattle.std.specs.Prelude.{◌≡◌, ℕ, ◌+◌, ◌*◌, ◌<◌, ◌≤◌, true, false, cond, length, Some, None, MatchResult, slice_index};
+ghost use Rattle.std.specs.Prelude.{◌≡◌, ℕ, List, IsSomeAnd, ◌+◌, ◌*◌, ◌<◌, ◌≤◌, true, false, cond, length, Some, None, MatchResult, slice_index};
 ghost use Rattle.refusal.specs.Faults.{fault_at};
 ghost use Rattle.refusal.specs.declared.refusal.Refusal.TheVariants.{Letter};
 ghost use Rattle.circuit.specs.Gates.{own_rows};
@@ -7,14 +7,15 @@ ghost use Rattle.circuit.specs.Kinds.{all_kinds, kind_among};
 ghost use Rattle.sheet_format.specs.Shapes.{header_shape, gate_shape, output_shape};
 ghost use Rattle.sheet_format.specs.Decoding.{number, fields_of, kind_named, gate_in, gate_from};
 ghost use Rattle.sheet_format.specs.FirstFault.{header_fault, gate_fault, output_fault, names_gate, may_stand};
-ghost use Rattle.sheet.specs.Parts.{Headed};
+ghost use Rattle.sheet.specs.Parts.{GateFields, Headed};
 
-use crate::rows::{Fields, read_fields, read_lettered, split_row};
-use circuit::gate::{Binary, Gate, Inputs, Kind, Unary};
-use layout::shape::Shape;
+use crate::rows::{Fields, read_fields, read_letter, read_lettered};
+use circuit::gate::{Gate, Inputs, Kind};
+use layout::row::Row;
+use layout::shape::{Bounds, Shape};
 use refusal::fault::Fault;
 use refusal::refusal::Refusal;
-use sheet_format::role::Role;
+use refusal::role::Role;
 
 /// What a sheet's first row says.
 #[derive(Clone, Copy)]
@@ -24,14 +25,19 @@ pub struct Header {
     pub outputs: usize,
 }
 
+/// The bounds of a field that is blank: no number is within them.
+const BLANK: Bounds = Bounds { low: 1, high: 0 };
+
 fn shape_of_header() -> Shape
     ensures { result ≡ header_shape }
 {
+    let inputs = Bounds { low: 1, high: 16 };
+    let gates = Bounds { low: 1, high: 200 };
+    let outputs = Bounds { low: 1, high: 16 };
     Shape {
         needed: 3,
         allowed: 3,
-        lows: [1; 6],
-        highs: [16, 200, 16, 0, 0, 0],
+        bounds: [inputs, gates, outputs, BLANK, BLANK, BLANK],
     }
 }
 
@@ -39,114 +45,100 @@ fn shape_of_gate(own: u32, kind: Kind) -> Shape
     requires { 1 ≤ own }
     ensures { result ≡ gate_shape own kind }
 {
-    let below = own - 1;
+    let itself = Bounds {
+        low: own,
+        high: own,
+    };
+    let below = Bounds {
+        low: 1,
+        high: own - 1,
+    };
     Shape {
         needed: 1 + kind.fewest_inputs(),
         allowed: 1 + kind.most_inputs(),
-        lows: [own, 1, 1, 1, 1, 1],
-        highs: [own, below, below, below, below, below],
+        bounds: [itself, below, below, below, below, below],
     }
 }
 
 fn shape_of_output(nets: u32) -> Shape
     ensures { result ≡ output_shape nets }
 {
+    let net = Bounds { low: 1, high: nets };
     Shape {
         needed: 1,
         allowed: 1,
-        lows: [1; 6],
-        highs: [nets, 0, 0, 0, 0, 0],
+        bounds: [net, BLANK, BLANK, BLANK, BLANK, BLANK],
     }
 }
 
-/// The kind of gate that a row's letter names.
-fn kind_of(letter: u8) -> Option<Kind>
-    ensures { result ≡ kind_among all_kinds letter }
-{
-    match letter as char {
-        'B' => Some(Kind::Unary(Unary::Buffer)),
-        'I' => Some(Kind::Unary(Unary::Inverter)),
-        'A' => Some(Kind::Binary(Binary::And)),
-        'O' => Some(Kind::Binary(Binary::Or)),
-        'X' => Some(Kind::Binary(Binary::Xor)),
-        'D' => Some(Kind::Binary(Binary::Nand)),
-        'R' => Some(Kind::Binary(Binary::Nor)),
-        'E' => Some(Kind::Binary(Binary::Xnor)),
-        'L' => Some(Kind::Table),
-        _ => None,
-    }
-}
-
-/// Whether a gate of that kind may stand in such a sheet.
-fn stands(role: Role, kind: Kind) -> bool
-    ensures { result ≡ may_stand role kind }
-{
-    match (role, kind) {
-        (Role::Specification, Kind::Table) => false,
-        _ => true,
-    }
-}
-
+/// The kind of gate that a row's letter names, where a gate of that kind may stand in such a sheet.
 fn read_kind(letter: u8, role: Role) -> Result<Kind, Fault>
     ensures { MatchResult result (λ k. (names_gate role letter ≡ true) × (k ≡ kind_named letter)) (λ f. (names_gate role letter ≡ false) × (f ≡ fault_at Letter 1)) }
 {
-    match kind_of(letter) {
-        Some(kind) if stands(role, kind) => Ok(kind),
-        _ => Err(Fault::at(Refusal::Letter, 1)),
+    match Kind::try_from(letter) {
+        Ok(Kind::Table) if role == Role::Specification => Err(Fault::at(Refusal::Letter, 1)),
+        Ok(kind) => Ok(kind),
+        Err(refusal) => Err(Fault::at(refusal, 1)),
     }
 }
 
+/// The number of a filled field that may hold no greater one than 255.
+fn number_in(field: Option<u32>) -> u8
+    requires { IsSomeAnd field (λ n. n ≤ 255) }
+    ensures { field ≡ Some result }
+{
+    field.unwrap() as u8
+}
+
 /// The header of a sheet.
-pub(crate) fn read_header(row: &[u8]) -> Result<Header, Fault>
-    requires { length row.now ≡ 32 }
+pub(crate) fn read_header(row: &Row) -> Result<Header, Fault>
     ensures { MatchResult result (λ h. (header_fault row.now ≡ None) × Headed row.now h) (λ f. header_fault row.now ≡ Some f) }
 {
     let fields = read_lettered(row, b'H', &shape_of_header())?;
-    let [inputs, gates, outputs, ..] = fields.numbers;
+    let [inputs, gates, outputs, ..] = fields;
     Ok(Header {
-        inputs: inputs as u8,
-        gates: gates as usize,
-        outputs: outputs as usize,
+        inputs: number_in(inputs),
+        gates: usize::from(number_in(gates)),
+        outputs: usize::from(number_in(outputs)),
     })
 }
 
 /// The net of an output, one of the first `nets`.
-pub(crate) fn read_output(row: &[u8], nets: u32) -> Result<u8, Fault>
-    requires { (length row.now ≡ 32) × (nets ≤ 216) }
+pub(crate) fn read_output(row: &Row, nets: u32) -> Result<u8, Fault>
+    requires { nets ≤ 216 }
     ensures { MatchResult result (λ net. (output_fault nets row.now ≡ None) × (net ≡ number 0 (fields_of row.now))) (λ f. output_fault nets row.now ≡ Some f) }
 {
-    let fields = read_lettered(row, b'Q', &shape_of_output(nets))?;
-    Ok(fields.numbers[0] as u8)
+    let [net, ..] = read_lettered(row, b'Q', &shape_of_output(nets))?;
+    Ok(number_in(net))
 }
 
-/// The gate of a kind whose row holds these numbers.
-fn gate_of(kind: Kind, fields: &Fields) -> Gate
-    requires { (j : ℕ) → j < 6 → slice_index fields.now.numbers j ≤ 255 }
-    ensures { result ≡ gate_from kind fields.now.filled fields.now.numbers }
+/// The gate of a kind whose row has these fields.
+fn gate_of(kind: Kind, fields: Fields) -> Gate
+    requires { (k : ℕ) × (ns : List ℕ) × GateFields kind k ns fields }
+    ensures { (k : ℕ) (ns : List ℕ) → GateFields kind k ns fields → result ≡ gate_from kind k ns }
 {
-    let [_, a, b, c, d, _] = fields.numbers;
-    let (a, b, c, d) = (a as u8, b as u8, c as u8, d as u8);
+    let [_, a, b, c, d, _] = fields;
     match kind {
-        Kind::Unary(unary) => Gate::Unary(unary, a),
-        Kind::Binary(binary) => Gate::Binary(binary, a, b),
-        Kind::Table => Gate::Table(match fields.filled {
-            2 => Inputs::One(a),
-            3 => Inputs::Two(a, b),
-            4 => Inputs::Three(a, b, c),
-            _ => Inputs::Four(a, b, c, d),
+        Kind::Unary(unary) => Gate::Unary(unary, number_in(a)),
+        Kind::Binary(binary) => Gate::Binary(binary, number_in(a), number_in(b)),
+        Kind::Table => Gate::Table(match (b, c, d) {
+            (None, _, _) => Inputs::One(number_in(a)),
+            (_, None, _) => Inputs::Two(number_in(a), number_in(b)),
+            (_, _, None) => Inputs::Three(number_in(a), number_in(b), number_in(c)),
+            _ => Inputs::Four(number_in(a), number_in(b), number_in(c), number_in(d)),
         }),
     }
 }
 
 /// The gate that drives net `own`, where the tables above have `before` rows.
-pub(crate) fn read_gate(row: &[u8], role: Role, own: u32, before: usize) -> Result<Gate, Fault>
-    requires { (length row.now ≡ 32) × ((1 ≤ own) × ((own ≤ 216) × (before ≤ 64))) }
+pub(crate) fn read_gate(row: &Row, role: Role, own: u32, before: usize) -> Result<Gate, Fault>
+    requires { (1 ≤ own) × ((own ≤ 216) × (before ≤ 64)) }
     ensures { MatchResult result (λ g. (gate_fault role own before row.now ≡ None) × (g ≡ gate_in row.now) × (before + own_rows g ≤ 64)) (λ f. gate_fault role own before row.now ≡ Some f) }
 {
-    let (letter, text) = split_row(row)?;
+    let letter = read_letter(row)?;
     let kind = read_kind(letter, role)?;
-    let fields = read_fields(text, &shape_of_gate(own, kind))?;
-    let gate = gate_of(kind, &fields);
+    let fields = read_fields(row, &shape_of_gate(own, kind))?;
+    let gate = gate_of(kind, fields);
     if before + gate.rows() > 64 {
         return Err(Fault::at(Refusal::TableBits, 1));
     }

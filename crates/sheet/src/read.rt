@@ -1,13 +1,12 @@
 // Sheets and pairs, read from their bytes.
-ghost use Rattle.std.specs.Prelude.{◌≡◌, ℕ, ◌+◌, ◌*◌, ◌%◌, ◌<◌, ◌≤◌, true, false, [], length, Some, None, vec_len, vec_capacity, MatchResult};
+ghost use Rattle.std.specs.Prelude.{◌≡◌, ℕ, ◌+◌, ◌*◌, ◌%◌, ◌<◌, ◌≤◌, true, false, [], length, map, Some, None, vec_len, vec_capacity, MatchResult};
 ghost use Rattle.refusal.specs.Faults.{fault_at};
 ghost use Rattle.refusal.specs.declared.refusal.Refusal.TheVariants.{Length, RowCount};
 ghost use Rattle.circuit.specs.View.{drawn};
-ghost use Rattle.sheet_format.specs.Rows.{size};
-ghost use Rattle.sheet_format.specs.Decoding.{row_at, gates_in, outputs_in, gates_read, outputs_read, sheet_in};
-ghost use Rattle.sheet_format.specs.FirstFault.{gates_fault, outputs_fault, rows_counted, sheet_fault};
+ghost use Rattle.sheet_format.specs.Decoding.{gate_in, sheet_in};
+ghost use Rattle.sheet_format.specs.FirstFault.{rows_counted, sheet_fault};
 ghost use Rattle.sheet.specs.Answers.{SheetRead, PairRead, PairLoaded};
-ghost use Rattle.sheet.specs.Parts.{Headed};
+ghost use Rattle.sheet.specs.Parts.{IsRows, gates_fault_in, outputs_fault_in, net_in};
 
 use crate::length::sheet_length;
 use crate::parts::{Header, read_gate, read_header, read_output};
@@ -15,64 +14,61 @@ use crate::room::{PairRoom, Room};
 use circuit::circuit::Circuit;
 use circuit::gate::Gate;
 use circuit::pair::Pair;
-use refusal::fault::{Fault, Placed, in_column};
+use layout::row::Row;
+use refusal::fault::Fault;
 use refusal::refusal::Refusal;
-use sheet_format::role::Role;
+use refusal::role::Role;
 use std::alloc::Global;
 
-/// The gates of a sheet whose header was read, in order.
+/// The gates that these rows say, in order.
 fn read_gates(
-    bytes: &[u8],
+    rows: &[Row],
     role: Role,
-    header: Header,
+    inputs: u8,
     mut gates: Vec<Gate>,
 ) -> Result<Vec<Gate>, Fault>
-    requires headed { Headed (row_at bytes.now 0) header }
-    requires sized { size header.gates header.outputs ≤ length bytes.now }
+    requires few { (inputs ≤ 16) × (length rows.now ≤ 200) }
     requires empty { (gates.items ≡ []) × (vec_len gates ≡ 0) }
     requires roomy { 200 ≤ vec_capacity gates }
-    ensures { MatchResult result (λ v. (gates_fault role bytes.now header.gates ≡ None) × (v.items ≡ gates_read bytes.now header.gates)) (λ f. gates_fault role bytes.now header.gates ≡ Some f) }
+    ensures { MatchResult result (λ v. (gates_fault_in role inputs rows.now ≡ None) × (v.items ≡ map gate_in rows.now)) (λ f. gates_fault_in role inputs rows.now ≡ Some f) }
 {
     let mut used = 0;
-    for i in 0..header.gates {
-        let row = &bytes[32 * (i + 1)..32 * (i + 2)];
-        let own = u32::from(header.inputs) + i as u32 + 1;
-        let gate = read_gate(row, role, own, used).in_row(i as u16 + 2)?;
+    for (i, row) in rows.iter().enumerate() {
+        let own = u32::from(inputs) + i as u32 + 1;
+        let gate = read_gate(row, role, own, used).map_err(|fault| fault.in_row(i as u16 + 2))?;
         used += gate.rows();
         gates.push_reserved(gate);
     }
     Ok(gates)
 }
 
-/// The outputs of a sheet whose header was read, in order.
-fn read_outputs(bytes: &[u8], header: Header, mut outputs: Vec<u8>) -> Result<Vec<u8>, Fault>
-    requires headed { Headed (row_at bytes.now 0) header }
-    requires sized { size header.gates header.outputs ≤ length bytes.now }
+/// The outputs that these rows say, in order, below the rows of the header's gates.
+fn read_outputs(rows: &[Row], header: Header, mut outputs: Vec<u8>) -> Result<Vec<u8>, Fault>
+    requires few { (header.inputs ≤ 16) × (header.gates ≤ 200) × (length rows.now ≤ 16) }
     requires empty { (outputs.items ≡ []) × (vec_len outputs ≡ 0) }
     requires roomy { 16 ≤ vec_capacity outputs }
-    ensures { MatchResult result (λ v. (outputs_fault bytes.now header.outputs ≡ None) × (v.items ≡ outputs_read bytes.now header.gates header.outputs)) (λ f. outputs_fault bytes.now header.outputs ≡ Some f) }
+    ensures { MatchResult result (λ v. (outputs_fault_in header.gates (header.inputs + header.gates) rows.now ≡ None) × (v.items ≡ map net_in rows.now)) (λ f. outputs_fault_in header.gates (header.inputs + header.gates) rows.now ≡ Some f) }
 {
     let nets = u32::from(header.inputs) + header.gates as u32;
-    for j in 0..header.outputs {
-        let k = header.gates + j;
-        let row = &bytes[32 * (k + 1)..32 * (k + 2)];
-        let net = read_output(row, nets).in_row(k as u16 + 2)?;
+    let above = header.gates as u16 + 2;
+    for (j, row) in rows.iter().enumerate() {
+        let net = read_output(row, nets).map_err(|fault| fault.in_row(above + j as u16))?;
         outputs.push_reserved(net);
     }
     Ok(outputs)
 }
 
-/// One row at least, and whole rows.
-fn check_length(length: usize) -> Result<(), Fault>
-    ensures { MatchResult result (λ _. (0 < length) × (length % 32 ≡ 0)) (λ f. ((0 < length) × (length % 32 ≡ 0) → ⊥) × (f ≡ fault_at Length 0)) }
+/// The rows of a sheet: one at least, and whole rows.
+fn whole_rows(bytes: &[u8]) -> Result<&[Row], Fault>
+    ensures { MatchResult result (λ rows. (0 < length rows.now) × IsRows bytes.now rows.now) (λ f. ((0 < length bytes.now) × (length bytes.now % 32 ≡ 0) → ⊥) × (f ≡ fault_at Length 0)) }
 {
-    if length == 0 || length % 32 != 0 {
-        return Err(Fault::at(Refusal::Length, 0));
+    match bytes.as_chunks::<32>() {
+        (rows, []) if !rows.is_empty() => Ok(rows),
+        _ => Err(Fault::at(Refusal::Length, 0)),
     }
-    Ok(())
 }
 
-/// As many rows as the header says: a target may have bytes after them.
+/// As many rows as the header says: a target may have rows after them.
 fn check_count(role: Role, wanted: usize, given: usize) -> Result<(), Fault>
     ensures { MatchResult result (λ _. rows_counted role wanted given ≡ true) (λ f. (rows_counted role wanted given ≡ false) × (f ≡ fault_at RowCount 1)) }
 {
@@ -91,13 +87,14 @@ fn check_count(role: Role, wanted: usize, given: usize) -> Result<(), Fault>
 fn read_part(bytes: &[u8], role: Role, room: Room) -> Result<Circuit, Fault>
     ensures { MatchResult result (λ c. (sheet_fault role bytes.now ≡ None) × (drawn c ≡ sheet_in bytes.now)) (λ f. sheet_fault role bytes.now ≡ Some f) }
 {
-    check_length(bytes.len())?;
-    let header = read_header(&bytes[0..32]).in_row(1)?;
-    let wanted = 32 * (1 + header.gates + header.outputs);
-    check_count(role, wanted, bytes.len()).in_row(1)?;
+    let rows = whole_rows(bytes)?;
+    let header = read_header(&rows[0]).map_err(|fault| fault.in_row(1))?;
+    let below_gates = 1 + header.gates;
+    let wanted = below_gates + header.outputs;
+    check_count(role, wanted, rows.len()).map_err(|fault| fault.in_row(1))?;
     let Room { gates, outputs } = room;
-    let gates = read_gates(bytes, role, header, gates)?;
-    let outputs = read_outputs(bytes, header, outputs)?;
+    let gates = read_gates(&rows[1..below_gates], role, header.inputs, gates)?;
+    let outputs = read_outputs(&rows[below_gates..wanted], header, outputs)?;
     Ok(Circuit {
         inputs: header.inputs,
         gates,
@@ -120,9 +117,13 @@ pub fn read_pair(room: PairRoom, bytes: &[u8]) -> Result<Pair, Fault>
         target,
         specification,
     } = room;
-    let target = read_part(bytes, Role::Target, target).in_sheet(1)?;
+    let target = read_part(bytes, Role::Target, target).map_err(|fault| fault.in_sheet(
+        Role::Target,
+    ))?;
     let start = sheet_length(&target);
-    let specification = read_part(&bytes[start..], Role::Specification, specification).in_sheet(2)?;
+    let specification = read_part(&bytes[start..], Role::Specification, specification).map_err(
+        |fault| fault.in_sheet(Role::Specification),
+    )?;
     Ok(Pair {
         target,
         specification,
@@ -133,6 +134,6 @@ pub fn read_pair(room: PairRoom, bytes: &[u8]) -> Result<Pair, Fault>
 pub fn load_pair(heap: Global, bytes: &[u8]) -> Result<Pair, Fault>
     ensures { PairLoaded bytes.now result }
 {
-    let room = in_column(PairRoom::new(heap), 0)?;
+    let room = PairRoom::new(heap)?;
     read_pair(room, bytes)
 }

@@ -4,28 +4,25 @@ ghost use Rattle.refusal.specs.Faults.{fault_at};
 ghost use Rattle.refusal.specs.declared.refusal.Refusal.TheVariants.{LineFeed};
 ghost use Rattle.sheet_format.specs.Decoding.{letter, fields_of};
 ghost use Rattle.sheet_format.specs.FirstFault.{field_fault, fields_fault, row_fault};
-ghost use Rattle.sheet.specs.Parts.{field_option, Read};
+ghost use Rattle.sheet.specs.Parts.{field_option, options};
 
 use layout::field::{Columns, read_columns};
+use layout::row::Row;
 use layout::shape::Shape;
-use refusal::fault::{Fault, in_column};
+use refusal::fault::Fault;
 use refusal::refusal::Refusal;
 
-/// The letter and the thirty columns of fields of a row that ends in a line feed.
-pub(crate) fn split_row(row: &[u8]) -> Result<(u8, &[u8]), Fault>
-    requires { length row.now ≡ 32 }
-    ensures { MatchResult result (λ p. (slice_index row.now 31 ≡ 10) × (p.0 ≡ letter row.now) × (p.1.now ≡ fields_of row.now)) (λ f. (f ≡ fault_at LineFeed 32) × (slice_index row.now 31 ≢ 10)) }
+/// What the six fields of a row hold, each a number or nothing.
+pub(crate) type Fields = [Option<u32>; 6];
+
+/// The letter of a row that ends in a line feed.
+pub(crate) fn read_letter(row: &Row) -> Result<u8, Fault>
+    ensures { MatchResult result (λ l. (slice_index row.now 31 ≡ 10) × (l ≡ letter row.now)) (λ f. (f ≡ fault_at LineFeed 32) × (slice_index row.now 31 ≢ 10)) }
 {
-    let [letter, fields @ ..] = row else {
-        unreachable()
-    };
-    let [fields @ .., feed] = fields else {
-        unreachable()
-    };
-    if *feed != b'\n' {
-        return Err(Fault::at(Refusal::LineFeed, 32));
+    match *row {
+        [letter, .., b'\n'] => Ok(letter),
+        _ => Err(Fault::at(Refusal::LineFeed, 32)),
     }
-    Ok((*letter, fields))
 }
 
 /// Field j of a row, where `before` of the fields before it are filled: its form, then its range.
@@ -34,7 +31,7 @@ fn read_field(text: Columns, j: usize, before: usize, shape: &Shape) -> Result<O
     ensures { MatchResult result (λ v. (field_fault shape.now j before text ≡ None) × (v ≡ field_option text)) (λ f. field_fault shape.now j before text ≡ Some f) }
 {
     let column = 2 + 5 * j as u8;
-    let value = in_column(read_columns(text), column)?;
+    let value = read_columns(text).map_err(|refusal| Fault::at(refusal, column))?;
     match value {
         None => {
             if j < shape.needed {
@@ -45,7 +42,7 @@ fn read_field(text: Columns, j: usize, before: usize, shape: &Shape) -> Result<O
             if j >= shape.allowed || before != j {
                 return Err(Fault::at(Refusal::FieldForm, column));
             }
-            if number < shape.lows[j] || number > shape.highs[j] {
+            if !shape.bounds[j].contains(number) {
                 return Err(Fault::at(Refusal::FieldRange, column));
             }
         }
@@ -53,41 +50,27 @@ fn read_field(text: Columns, j: usize, before: usize, shape: &Shape) -> Result<O
     Ok(value)
 }
 
-/// The fields of a row: their numbers, 0 for a blank one, and how many of them are filled.
-#[derive(Clone, Copy)]
-pub struct Fields {
-    pub numbers: [u32; 6],
-    pub filled: usize,
-}
-
 /// The six fields of a row, each taken apart in turn from the left.
-pub(crate) fn read_fields(text: &[u8], shape: &Shape) -> Result<Fields, Fault>
-    requires { length text.now ≡ 30 }
-    ensures { MatchResult result (λ v. (fields_fault shape.now text.now ≡ None) × Read shape.now text.now v) (λ f. fields_fault shape.now text.now ≡ Some f) }
+pub(crate) fn read_fields(row: &Row, shape: &Shape) -> Result<Fields, Fault>
+    ensures { MatchResult result (λ v. (fields_fault shape.now (fields_of row.now) ≡ None) × (v ≡ options (fields_of row.now))) (λ f. fields_fault shape.now (fields_of row.now) ≡ Some f) }
 {
-    let mut numbers = [0; 6];
+    let (columns, _) = row[1..31].as_chunks::<5>();
+    let mut fields = [None; 6];
     let mut filled = 0;
-    let mut rest = text;
-    for j in 0..6 {
-        let [a, b, c, d, e, more @ ..] = rest else {
-            unreachable()
-        };
-        let value = read_field([*a, *b, *c, *d, *e], j, filled, shape)?;
-        numbers[j] = value.unwrap_or(0);
-        filled += usize::from(value.is_some());
-        rest = more;
+    for (j, text) in columns.iter().enumerate() {
+        let field = read_field(*text, j, filled, shape)?;
+        filled += usize::from(field.is_some());
+        fields[j] = field;
     }
-    Ok(Fields { numbers, filled })
+    Ok(fields)
 }
 
 /// The fields of a row that begins with that letter.
-pub(crate) fn read_lettered(row: &[u8], wanted: u8, shape: &Shape) -> Result<Fields, Fault>
-    requires { length row.now ≡ 32 }
-    ensures { MatchResult result (λ v. (row_fault (letter row.now == wanted) shape.now row.now ≡ None) × Read shape.now (fields_of row.now) v) (λ f. row_fault (letter row.now == wanted) shape.now row.now ≡ Some f) }
+pub(crate) fn read_lettered(row: &Row, wanted: u8, shape: &Shape) -> Result<Fields, Fault>
+    ensures { MatchResult result (λ v. (row_fault (letter row.now == wanted) shape.now row.now ≡ None) × (v ≡ options (fields_of row.now))) (λ f. row_fault (letter row.now == wanted) shape.now row.now ≡ Some f) }
 {
-    let (letter, fields) = split_row(row)?;
-    if letter != wanted {
+    if read_letter(row)? != wanted {
         return Err(Fault::at(Refusal::Letter, 1));
     }
-    read_fields(fields, shape)
+    read_fields(row, shape)
 }

@@ -1,9 +1,10 @@
 // Circuits and pairs, written as their rows.
-ghost use Rattle.std.specs.Prelude.{◌≡◌, ℕ, ◌+◌, ◌*◌, ◌<◌, ◌≤◌, [], ◌∷◌, length};
+ghost use Rattle.std.specs.Prelude.{◌≡◌, ℕ, ◌+◌, ◌*◌, ◌<◌, ◌≤◌, List, [], ◌∷◌, length};
+ghost use Rattle.std.specs.Borrow.{Bor};
 ghost use Rattle.circuit.specs.View.{drawn};
 ghost use Rattle.layout.specs.Text.{row_text};
 ghost use Rattle.sheet_format.specs.Rows.{rows, pair_rows, header_text, gate_text, gate_texts, output_text, output_texts};
-ghost use Rattle.sheet.specs.Written.{laid, Written};
+ghost use Rattle.sheet.specs.Written.{laid, texts, Written};
 
 use crate::length::{pair_length, sheet_length};
 use circuit::circuit::Circuit;
@@ -41,72 +42,101 @@ fn put_row(into: &mut [u8], at: usize, row: Row)
     into[at..at + 32].copy_from_slice(&row);
 }
 
-/// Puts the rows of gates that drive the nets from `own` on.
-fn put_gates(into: &mut [u8], at: usize, own: u32, gates: &[Gate])
-    requires room { at + 32 * length gates.now ≤ length into.old }
-    requires few { own + length gates.now ≤ 1000 }
-    ensures { into.new ≡ laid into.old at (gate_texts own gates.now) }
+/// Puts the rows of some items, each with its number among them.
+fn put_rows<T, F: Fn(usize, &T) -> Row>(into: &mut [u8], at: usize, items: &[T], row_of: F)
+    requires room { at + 32 * length items.now ≤ length into.old }
+    requires callable { (i : ℕ) (x : Bor T) → i < length items.now → F.pre row_of i x }
+    ensures { (text : ℕ → T → List ℕ) → ((i : ℕ) (x : Bor T) (r : _) → i < length items.now → F.post row_of i x r → r ≡ text i x.now) → into.new ≡ laid into.old at (texts text 0 items.now) }
 {
-    for i in 0..gates.len() {
-        put_row(into, at + 32 * i, gate_row(own + i as u32, gates[i]));
+    for (i, item) in items.iter().enumerate() {
+        put_row(into, at + 32 * i, row_of(i, item));
     }
 }
 
-/// Puts the rows of outputs.
-fn put_outputs(into: &mut [u8], at: usize, outputs: &[u8])
-    requires { at + 32 * length outputs.now ≤ length into.old }
-    ensures { into.new ≡ laid into.old at (output_texts outputs.now) }
-{
-    for j in 0..outputs.len() {
-        put_row(into, at + 32 * j, row_text(b'Q', &[outputs[j] as u32]));
+/// What is written as rows: a circuit, or the two circuits of a pair.
+trait InRows {
+    ghost text: { Self → List ℕ };
+
+    /// How many bytes the rows take.
+    fn length(&self) -> usize
+        ensures { result ≡ length (text self.now) };
+
+    /// Puts the rows at that place.
+    fn put(&self, into: &mut [u8], at: usize)
+        requires { at + length (text self.now) ≤ length into.old }
+        ensures { into.new ≡ laid into.old at (text self.now) };
+}
+
+impl InRows for Circuit {
+    ghost text = { λ c. rows (drawn c) };
+
+    fn length(&self) -> usize {
+        sheet_length(self)
+    }
+
+    fn put(&self, into: &mut [u8], at: usize) {
+        let gates = self.gates.as_slice();
+        let outputs = self.outputs.as_slice();
+        let own = self.inputs as u32 + 1;
+        let header = [self.inputs as u32, gates.len() as u32, outputs.len() as u32];
+        put_row(into, at, row_text(b'H', &header));
+        let below = at + 32;
+        put_rows(
+            into,
+            below,
+            gates,
+            |i, gate|
+                requires { own + i < 1000 }
+                ensures { result ≡ gate_text (own + i) gate.now }
+            { gate_row(own + i as u32, *gate) },
+        );
+        put_rows(
+            into,
+            below + 32 * gates.len(),
+            outputs,
+            |_, net|
+                ensures { result ≡ output_text net.now }
+            { row_text(b'Q', &[*net as u32]) },
+        );
     }
 }
 
-/// Puts the rows of a circuit.
-fn put_sheet(into: &mut [u8], at: usize, circuit: &Circuit)
-    requires { at + length (rows (drawn circuit.now)) ≤ length into.old }
-    ensures { into.new ≡ laid into.old at (rows (drawn circuit.now)) }
+impl InRows for Pair {
+    ghost text = { λ p. pair_rows (drawn p.target) (drawn p.specification) };
+
+    fn length(&self) -> usize {
+        pair_length(self)
+    }
+
+    fn put(&self, into: &mut [u8], at: usize) {
+        self.target.put(into, at);
+        self.specification
+            .put(into, at + sheet_length(&self.target));
+    }
+}
+
+/// Writes the rows into a buffer, and answers their length.
+fn write<T: InRows>(item: &T, into: &mut [u8]) -> Result<usize, Refusal>
+    ensures { Written (T.text item.now) into.old into.new result }
 {
-    let gates = circuit.gates.as_slice();
-    let outputs = circuit.outputs.as_slice();
-    put_row(
-        into,
-        at,
-        row_text(
-            b'H',
-            &[
-                circuit.inputs as u32,
-                gates.len() as u32,
-                outputs.len() as u32,
-            ],
-        ),
-    );
-    let first = at + 32;
-    put_gates(into, first, circuit.inputs as u32 + 1, gates);
-    put_outputs(into, first + 32 * gates.len(), outputs);
+    let length = item.length();
+    if into.len() < length {
+        return Err(Refusal::TooShort);
+    }
+    item.put(into, 0);
+    Ok(length)
 }
 
 /// Writes a circuit's rows into a buffer, and answers their length.
 pub fn write_sheet(circuit: &Circuit, into: &mut [u8]) -> Result<usize, Refusal>
     ensures { Written (rows (drawn circuit.now)) into.old into.new result }
 {
-    let length = sheet_length(circuit);
-    if into.len() < length {
-        return Err(Refusal::TooShort);
-    }
-    put_sheet(into, 0, circuit);
-    Ok(length)
+    write(circuit, into)
 }
 
 /// Writes a pair's rows into a buffer, the target's first, and answers their length.
 pub fn write_pair(pair: &Pair, into: &mut [u8]) -> Result<usize, Refusal>
     ensures { Written (pair_rows (drawn pair.now.target) (drawn pair.now.specification)) into.old into.new result }
 {
-    let length = pair_length(pair);
-    if into.len() < length {
-        return Err(Refusal::TooShort);
-    }
-    put_sheet(into, 0, &pair.target);
-    put_sheet(into, sheet_length(&pair.target), &pair.specification);
-    Ok(length)
+    write(pair, into)
 }

@@ -3,6 +3,7 @@
 use Rattle.std.proofs.Common.{◌≡◌, ℕ, zero, suc, ◌+◌, ◌%◌, ◌<◌, ◌≤◌, true, eqb, ltb, List, [], ◌∷◌, ◌++◌, length, get_or, take, None, Option, sym, refl, ap, ◌∙◌, arith, length-append}
 use Rattle.std.proofs.lemmas.List.{get_or-take, length-take-le, take_all}
 use Rattle.std.proofs.lemmas.List.FromFn.{fill_by_all}
+use Rattle.std.proofs.lemmas.List.Sums.{sum_by_more, sum_by-take-le}
 use Rattle.std.proofs.lemmas.Bool.{eq-eqb, le-leb, lt-ltb, and_from}
 use Rattle.refusal.specs.declared.refusal.Refusal.TheVariants.{Length, RowCount}
 use Rattle.refusal.specs.declared.fault.Fault.{Fault}
@@ -12,10 +13,10 @@ use Rattle.circuit.specs.declared.gate.Unary.TheVariants.{Buffer}
 use Rattle.circuit.specs.declared.gate.Gate.{Gate}
 use Rattle.circuit.specs.declared.gate.Gate.TheVariants.{Unary, Binary, Table}
 use Rattle.circuit.specs.Gates.{Sheet, Lawful, kind_of, gate_at, own_rows, total_rows}
-use Rattle.sheet_format.specs.declared.role.Role.{Role}
-use Rattle.sheet_format.specs.declared.role.Role.TheVariants.{Alone, Target, Specification}
+use Rattle.refusal.specs.declared.role.Role.{Role}
+use Rattle.refusal.specs.declared.role.Role.TheVariants.{Alone, Target, Specification}
 use Rattle.sheet_format.specs.Rows.{rows, size, header_text, gate_text, output_text}
-use Rattle.sheet_format.specs.Shapes.{header_shape}
+use Rattle.sheet_format.specs.Shapes.{lowest, highest, header_shape}
 use Rattle.sheet_format.specs.Decoding.{row_at, fields_of, number, gate_in, inputs_in, gates_in, outputs_in, gates_read, outputs_read, sheet_in}
 use Rattle.sheet_format.specs.FirstFault.{sheet_fault, header_fault, gates_fault, outputs_fault, gate_fault, output_fault, whole_rows, rows_counted, may_stand, unless, at_row}
 use Rattle.sheet_format.proofs.Read.{Suits, MayFollow, Complete}
@@ -26,9 +27,7 @@ pub use Rattle.sheet_format.proofs.CompleteRows.{length_rows}
 
 -- the rows of a gate and of those before it are among all rows
 rows_within : (gs : List Gate) (i : ℕ) → i < length gs → total_rows (take i gs) + own_rows (gate_at gs i) ≤ total_rows gs
-rows_within [] i h = let no : ⊥ = omega arith in elim no [ ]
-rows_within (g ∷ gs) zero h = omega arith
-rows_within (g ∷ gs) (suc i) h = omega (arith, rows_within gs i (omega arith))
+rows_within gs i h = omega (arith, sum_by_more own_rows gs i (Unary Buffer 1) h, sum_by-take-le own_rows gs (i + 1))
 
 -- a gate with no rows of its own is no table
 plain_stands : (g : Gate) → own_rows g ≡ 0 → may_stand Specification (kind_of g) ≡ true
@@ -70,8 +69,8 @@ header_suits : (s : Sheet) → Lawful s → Suiting header_shape (header_numbers
 header_suits s lawful = record {
   enough = omega arith;
   few = omega arith;
-  low = three (λ j. get_or header_shape.lows j 0 ≤ get_or (header_numbers s) j 0) lawful.few.0 lawful.sized.0 lawful.shown.0;
-  high = three (λ j. get_or (header_numbers s) j 0 ≤ get_or header_shape.highs j 0) lawful.few.1 lawful.sized.1 lawful.shown.1;
+  low = three (λ j. lowest header_shape j ≤ get_or (header_numbers s) j 0) lawful.few.0 lawful.sized.0 lawful.shown.0;
+  high = three (λ j. get_or (header_numbers s) j 0 ≤ highest header_shape j) lawful.few.1 lawful.sized.1 lawful.shown.1;
   small = three (λ j. get_or (header_numbers s) j 0 < 100000) (omega arith) (omega arith) (omega arith);
 }
 

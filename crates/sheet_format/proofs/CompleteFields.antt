@@ -9,6 +9,7 @@ use Rattle.std.specs.Str.{bytes_eq}
 use Rattle.refusal.specs.declared.fault.Fault.{Fault}
 use Rattle.layout.specs.declared.shape.Shape.{Shape}
 use Rattle.layout.specs.Text.{column, columns, row_text, decoded, blank, numeral}
+use Rattle.sheet_format.specs.Shapes.{lowest, highest}
 use Rattle.sheet_format.specs.Decoding.{fields_of, field, filled_below, number}
 use Rattle.sheet_format.specs.FirstFault.{well_formed, in_range, field_fault, fields_fault, row_fault, first_below, or_else}
 
@@ -59,7 +60,7 @@ module _ (text ns : List ℕ) (holds : Holds text ns) where
 
 -- a number in range, in its place
 in_place : (s : Shape) (j n : ℕ) (x : List ℕ) → blank x ≡ false → numeral x ≡ true → decoded x ≡ n → j < s.allowed
-    → get_or s.lows j 0 ≤ n → n ≤ get_or s.highs j 0 → field_fault s j j x ≡ None
+    → lowest s j ≤ n → n ≤ highest s j → field_fault s j j x ≡ None
 unfolding field_fault
 in_place s j n x b m d place low high =
     let form : well_formed s j j x ≡ true = rw (b, m) (grind (arith, nat_tests)) in
@@ -83,8 +84,8 @@ first_below_none (suc n) look h = or_none (first_below_none n look (λ k l. h k 
 pub record Suiting (s : Shape) (ns : List ℕ) : Type 0 where
   pub enough : s.needed ≤ length ns
   pub few : length ns ≤ s.allowed
-  pub low : (j : ℕ) → j < length ns → get_or s.lows j 0 ≤ get_or ns j 0
-  pub high : (j : ℕ) → j < length ns → get_or ns j 0 ≤ get_or s.highs j 0
+  pub low : (j : ℕ) → j < length ns → lowest s j ≤ get_or ns j 0
+  pub high : (j : ℕ) → j < length ns → get_or ns j 0 ≤ highest s j
   pub small : (j : ℕ) → j < length ns → get_or ns j 0 < 100000
 
 module _ (s : Shape) (text ns : List ℕ) (holds : Holds text ns) (suits : Suiting s ns) where

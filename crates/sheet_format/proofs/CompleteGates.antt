@@ -1,7 +1,7 @@
 -- A gate's row and an output's row as they are read back, by cases on the kinds: the gate that was written, and no fault.
-use Rattle.std.proofs.Common.{◌≡◌, ℕ, zero, suc, ◌+◌, ◌-◌, ◌<◌, ◌≤◌, true, ◌&&◌, leb, List, [], ◌∷◌, length, get_or, is_some, Some, None, unwrap_or, sym, refl, ap, ◌∙◌, subst, arith}
+use Rattle.std.proofs.Common.{◌≡◌, ℕ, zero, suc, ◌+◌, ◌<◌, ◌≤◌, true, ◌&&◌, leb, List, [], ◌∷◌, length, get_or, is_some, Some, None, unwrap_or, sym, refl, ap, ◌∙◌, subst, arith}
 use Rattle.std.proofs.lemmas.Bool.{le-leb}
-use Rattle.std.proofs.lemmas.List.{get_or-replicate, get_or_default}
+use Rattle.std.proofs.lemmas.List.{get_or_default}
 use Rattle.refusal.specs.declared.refusal.Refusal.TheVariants.{TableBits}
 use Rattle.refusal.specs.Faults.{fault_at}
 use Rattle.circuit.specs.declared.gate.Inputs.TheVariants.{One, Two, Three, Four}
@@ -13,11 +13,12 @@ use Rattle.circuit.specs.declared.gate.Gate.{Gate}
 use Rattle.circuit.specs.declared.gate.Gate.TheVariants.{Unary, Binary, Table}
 use Rattle.circuit.specs.Kinds.{all_kinds, kind_among, letter_of, fewest_inputs, most_inputs}
 use Rattle.circuit.specs.Gates.{Net, kind_of, nets, own_rows}
-use Rattle.sheet_format.specs.declared.role.Role.{Role}
+use Rattle.refusal.specs.declared.role.Role.{Role}
 use Rattle.sheet_format.specs.Rows.{gate_text, output_text}
-use Rattle.sheet_format.specs.Shapes.{gate_shape, output_shape}
+use Rattle.sheet_format.specs.Shapes.{lowest, highest, gate_shape, output_shape}
 use Rattle.sheet_format.specs.Decoding.{fields_of, filled, number, numbers, gate_from, kind_named, gate_in}
 use Rattle.sheet_format.specs.FirstFault.{names_gate, may_stand, gate_fault, output_fault, row_fault, unless}
+use Rattle.sheet_format.proofs.Bounds.{input_bounds}
 use Rattle.sheet_format.proofs.CompleteFields.{Suiting, row_holds, number_holds, filled_below_holds, row_none, or_none}
 
 -- a kind is found by its letter
@@ -89,22 +90,19 @@ module _ (own : ℕ) (g : Gate) (small : (j : ℕ) → j < length (own ∷ nets 
 kind_stands : (role : Role) (k : Kind) → may_stand role k ≡ true → names_gate role (letter_of k) ≡ true
 kind_stands role k stands = ap (λ x. is_some x && may_stand role (unwrap_or x kinds.TheVariants.Table)) (kind_found k) ∙ stands
 
-five_same : (x j : ℕ) → j < 5 → get_or (x ∷ x ∷ x ∷ x ∷ x ∷ []) j 0 ≡ x
-five_same x j h = get_or-replicate 5 j x 0 h
-
 -- the gate that drives net m + 1 reads nets up to m
 module _ (m : ℕ) (g : Gate) (within : (j : ℕ) → Net m (get_or (nets g) j 1)) (small : m < 99999) where
   input_net_within : (j : ℕ) → j < length (nets g) → Net m (get_or (nets g) j 0)
   input_net_within j h = rw (get_or_default (nets g) j 0 1 h) (within j)
 
-  gate_low : (j : ℕ) → j < length ((m + 1) ∷ nets g) → get_or (gate_shape (m + 1) (kind_of g)).lows j 0 ≤ get_or ((m + 1) ∷ nets g) j 0
+  gate_low : (j : ℕ) → j < length ((m + 1) ∷ nets g) → lowest (gate_shape (m + 1) (kind_of g)) j ≤ get_or ((m + 1) ∷ nets g) j 0
   gate_low zero h = omega arith
-  gate_low (suc j) h = let c = inputs_counted g in rw (five_same 1 j (omega arith)) (input_net_within j (omega arith)).0
+  gate_low (suc j) h = let c = inputs_counted g in rw (input_bounds (m + 1) (kind_of g) j (omega arith)).0 (input_net_within j (omega arith)).0
 
-  gate_high : (j : ℕ) → j < length ((m + 1) ∷ nets g) → get_or ((m + 1) ∷ nets g) j 0 ≤ get_or (gate_shape (m + 1) (kind_of g)).highs j 0
+  gate_high : (j : ℕ) → j < length ((m + 1) ∷ nets g) → get_or ((m + 1) ∷ nets g) j 0 ≤ highest (gate_shape (m + 1) (kind_of g)) j
   gate_high zero h = omega arith
   gate_high (suc j) h =
-      let c = inputs_counted g in rw (five_same (m + 1 - 1) j (omega arith)) (omega (arith, (input_net_within j (omega arith)).1))
+      let c = inputs_counted g in rw (input_bounds (m + 1) (kind_of g) j (omega arith)).1 (omega (arith, (input_net_within j (omega arith)).1))
 
   gate_small : (j : ℕ) → j < length ((m + 1) ∷ nets g) → get_or ((m + 1) ∷ nets g) j 0 < 100000
   gate_small zero h = omega arith
@@ -143,7 +141,7 @@ output_none n net h small =
     row_none true (output_shape n) 81 (net ∷ []) refl (record {
       enough = omega arith;
       few = omega arith;
-      low = only (λ j. get_or (output_shape n).lows j 0 ≤ get_or (net ∷ []) j 0) h.0;
-      high = only (λ j. get_or (net ∷ []) j 0 ≤ get_or (output_shape n).highs j 0) h.1;
+      low = only (λ j. lowest (output_shape n) j ≤ get_or (net ∷ []) j 0) h.0;
+      high = only (λ j. get_or (net ∷ []) j 0 ≤ highest (output_shape n) j) h.1;
       small = only (λ j. get_or (net ∷ []) j 0 < 100000) (omega arith);
     })

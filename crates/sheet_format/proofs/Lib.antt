@@ -1,4 +1,5 @@
 pub mod Read
+pub mod Bounds
 pub mod SoundLooks
 pub mod SoundFields
 pub mod SoundRow

@@ -1,8 +1,8 @@
 -- What the absence of a fault says of the bytes, and what a circuit's rows owe the reader, for each role of a sheet.
 use Rattle.std.proofs.Common.{◌≡◌, ℕ, ◌%◌, List, [], ◌++◌, length, None}
 use Rattle.circuit.specs.Gates.{Sheet, Lawful, Plain}
-use Rattle.sheet_format.specs.declared.role.Role.{Role}
-use Rattle.sheet_format.specs.declared.role.Role.TheVariants.{Alone, Target, Specification}
+use Rattle.refusal.specs.declared.role.Role.{Role}
+use Rattle.refusal.specs.declared.role.Role.TheVariants.{Alone, Target, Specification}
 use Rattle.sheet_format.specs.Rows.{rows}
 use Rattle.sheet_format.specs.Decoding.{sheet_in}
 use Rattle.sheet_format.specs.FirstFault.{sheet_fault, after_target}

@@ -3,7 +3,7 @@ use Rattle.std.proofs.Common.{◌≡◌, ℕ, ◌*◌, ◌%◌, List, [], ◌++�
 use Rattle.std.proofs.lemmas.List.{append-nil, drop_at}
 use Rattle.refusal.specs.Faults.{moved_to_sheet}
 use Rattle.circuit.specs.Gates.{Sheet, Lawful, Plain}
-use Rattle.sheet_format.specs.declared.role.Role.TheVariants.{Alone, Target, Specification}
+use Rattle.refusal.specs.declared.role.Role.TheVariants.{Alone, Target, Specification}
 use Rattle.sheet_format.specs.Rows.{rows, pair_rows, size}
 use Rattle.sheet_format.specs.Decoding.{sheet_in, gates_in, outputs_in}
 use Rattle.sheet_format.specs.FirstFault.{sheet_fault, pair_fault, after_target, at_sheet}
@@ -69,13 +69,13 @@ both_say t a b = record {
 -- the same of a pair
 pub one_pair : (t : List ℕ) → pair_fault t ≡ None → PairOf (sheet_in t) (sheet_in (after_target t)) t
 one_pair t e =
-    let p = both_passed (at_sheet 1 (sheet_fault Target t)) (at_sheet 2 (sheet_fault Specification (after_target t))) e in
-    both_say t (sound Target t (moved_passed (moved_to_sheet 1) (sheet_fault Target t) p.0))
-    (sound Specification (after_target t) (moved_passed (moved_to_sheet 2) (sheet_fault Specification (after_target t)) p.1))
+    let p = both_passed (at_sheet Target (sheet_fault Target t)) (at_sheet Specification (sheet_fault Specification (after_target t))) e in
+    both_say t (sound Target t (moved_passed (moved_to_sheet Target) (sheet_fault Target t) p.0))
+    (sound Specification (after_target t) (moved_passed (moved_to_sheet Specification) (sheet_fault Specification (after_target t)) p.1))
 
 pub pair_laws : PairLaws
 pair_laws = record {
   read_back = λ t e. (sheet_in t, sheet_in (after_target t), one_pair t e);
   written_well = λ x y lx ly p.
-      or_none (ap (at_sheet 1) (target_reads x y lx ly).faultless) (ap (at_sheet 2) (specification_reads x y lx ly p).faultless);
+      or_none (ap (at_sheet Target) (target_reads x y lx ly).faultless) (ap (at_sheet Specification) (specification_reads x y lx ly p).faultless);
 }

@@ -13,8 +13,8 @@ use Rattle.circuit.specs.declared.gate.Unary.TheVariants.{Buffer}
 use Rattle.circuit.specs.Gates.{Sheet, Lawful, Below, Driven, Net, nets, own_rows, total_rows}
 use Rattle.circuit.proofs.Rows.{rows_push}
 use Rattle.layout.specs.Text.{row_text}
-use Rattle.sheet_format.specs.declared.role.Role.{Role}
-use Rattle.sheet_format.specs.declared.role.Role.TheVariants.{Alone, Target, Specification}
+use Rattle.refusal.specs.declared.role.Role.{Role}
+use Rattle.refusal.specs.declared.role.Role.TheVariants.{Alone, Target, Specification}
 use Rattle.sheet_format.specs.Rows.{rows, size, header_text, gate_text, gate_texts, output_text, output_texts}
 use Rattle.sheet_format.specs.Decoding.{row_at, fields_of, number, gate_in, inputs_in, gates_in, outputs_in, gates_read, outputs_read}
 use Rattle.sheet_format.specs.FirstFault.{unless, at_row, whole_rows, rows_counted, sheet_fault}

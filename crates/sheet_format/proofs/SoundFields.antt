@@ -10,6 +10,7 @@ use Rattle.refusal.specs.declared.refusal.Refusal.TheVariants.{FieldForm, FieldR
 use Rattle.refusal.specs.Faults.{fault_at}
 use Rattle.layout.specs.declared.shape.Shape.{Shape}
 use Rattle.layout.specs.Text.{columns, decoded, blank, numeral}
+use Rattle.sheet_format.specs.Shapes.{lowest, highest}
 use Rattle.sheet_format.specs.Decoding.{field, number, numbers, filled_below, filled}
 use Rattle.sheet_format.specs.FirstFault.{unless, well_formed, in_range, field_fault, fields_fault}
 use Rattle.sheet_format.proofs.SoundLooks.{all_passed, test_passed, each_passed}
@@ -20,8 +21,8 @@ pub record Filled (s : Shape) (j k : ℕ) (x : List ℕ) : Type 0 where
   pub written : x ≡ columns (Some (decoded x))
   pub allowed : j < s.allowed
   pub packed : k ≡ j
-  pub low : get_or s.lows j 0 ≤ decoded x
-  pub high : decoded x ≤ get_or s.highs j 0
+  pub low : lowest s j ≤ decoded x
+  pub high : decoded x ≤ highest s j
 
 -- a blank field
 pub record Empty (s : Shape) (j : ℕ) (x : List ℕ) : Type 0 where
@@ -31,21 +32,21 @@ pub record Empty (s : Shape) (j : ℕ) (x : List ℕ) : Type 0 where
 
 by_blank : (b : Bool) (s : Shape) (j k : ℕ) (x : List ℕ) → blank x ≡ b
     → cond b (leb s.needed j) (numeral x && (ltb j s.allowed && eqb k j)) ≡ true
-    → (b || (leb (get_or s.lows j 0) (decoded x) && leb (decoded x) (get_or s.highs j 0))) ≡ true
+    → (b || (leb (lowest s j) (decoded x) && leb (decoded x) (highest s j))) ≡ true
     → Filled s j k x ⊎ Empty s j x
 by_blank true s j k x is form range =
     inr (record { none = is; written = (bytes_eq-Decides x (columns None)).0 is; spare = leb-true s.needed j form })
 by_blank false s j k x is form range =
     let parts = and_parts (numeral x) (ltb j s.allowed && eqb k j) form in
     let places = and_parts (ltb j s.allowed) (eqb k j) parts.1 in
-    let bounds = and_parts (leb (get_or s.lows j 0) (decoded x)) (leb (decoded x) (get_or s.highs j 0)) range in
+    let bounds = and_parts (leb (lowest s j) (decoded x)) (leb (decoded x) (highest s j)) range in
     inl (record {
       some = is;
       written = (bytes_eq-Decides x (columns (Some (decoded x)))).0 parts.0;
       allowed = ltb-true j s.allowed places.0;
       packed = eqb-true k j places.1;
-      low = leb-true (get_or s.lows j 0) (decoded x) bounds.0;
-      high = leb-true (decoded x) (get_or s.highs j 0) bounds.1;
+      low = leb-true (lowest s j) (decoded x) bounds.0;
+      high = leb-true (decoded x) (highest s j) bounds.1;
     })
 
 pub field_passed : (s : Shape) (j k : ℕ) (x : List ℕ) → field_fault s j k x ≡ None → Filled s j k x ⊎ Empty s j x
@@ -96,9 +97,11 @@ pub record Holds (s : Shape) (text : List ℕ) (k : ℕ) : Type 0 where
   pub needed : s.needed ≤ 6 → s.needed ≤ k
   pub allowed : k ≤ s.allowed
   pub within : k ≤ 6
+  pub some : (j : ℕ) → j < k → blank (field j text) ≡ false
+  pub none : (j : ℕ) → j < 6 → k ≤ j → blank (field j text) ≡ true
   pub written : (j : ℕ) → j < 6 → field j text ≡ columns (slice_get (take k (numbers text)) j)
-  pub low : (j : ℕ) → j < k → get_or s.lows j 0 ≤ get_or (numbers text) j 0
-  pub high : (j : ℕ) → j < k → get_or (numbers text) j 0 ≤ get_or s.highs j 0
+  pub low : (j : ℕ) → j < k → lowest s j ≤ get_or (numbers text) j 0
+  pub high : (j : ℕ) → j < k → get_or (numbers text) j 0 ≤ highest s j
 
 -- one of the first k elements, and none past them
 nth_front : (xs : List ℕ) (k j d : ℕ) → j < length xs → j < k → slice_get (take k xs) j ≡ Some (get_or xs j d)
@@ -133,6 +136,11 @@ holds s text k few all =
         | inr l ↦ omega arith
       ];
       within = few;
+      some = λ j l. (front j l).some;
+      none = λ j l m. elim (all j l) [
+        | inl f ↦ absurd (omega (arith, f.0))
+        | inr f ↦ f.1.none
+      ];
       written = λ j l. elim (all j l) [
         | inl f ↦ f.1.written ∙ ap columns (ap Some (sym (numbers_at text j l)) ∙ sym (nth_front (numbers text) k j 0 l f.0))
         | inr f ↦ f.1.written ∙ ap columns (sym (nth_beyond (numbers text) k j f.0))

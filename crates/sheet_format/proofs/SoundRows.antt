@@ -1,6 +1,6 @@
 -- The rows of a sheet without a fault: the header, a gate's row and an output's row are the rows of what they say, within its bounds.
-use Rattle.std.proofs.Common.{◌≡◌, ℕ, zero, suc, ◌+◌, ◌-◌, ◌<◌, ◌≤◌, Bool, true, false, cond, eqb, leb, List, [], ◌∷◌, length, get_or, take, replicate, is_some, Some, None, Option, unwrap_or, sym, refl, ap, ◌∙◌, inl, inr, arith}
-use Rattle.std.proofs.lemmas.List.{get_or-replicate, get_or_past, get_or-take, get_or_default, length-take}
+use Rattle.std.proofs.Common.{◌≡◌, ℕ, zero, suc, ◌+◌, ◌-◌, ◌<◌, ◌≤◌, Bool, true, false, cond, eqb, leb, List, [], ◌∷◌, length, get_or, take, is_some, Some, None, Option, unwrap_or, sym, refl, ap, ◌∙◌, inl, inr, arith}
+use Rattle.std.proofs.lemmas.List.{get_or_past, get_or-take, get_or_default, length-take}
 use Rattle.std.proofs.lemmas.Bool.{cases_lt, and_parts, eqb-true, leb-true}
 use Rattle.circuit.specs.declared.gate.Unary.{Unary}
 use Rattle.circuit.specs.declared.gate.Unary.TheVariants.{Buffer, Inverter}
@@ -16,12 +16,13 @@ use Rattle.refusal.specs.declared.refusal.Refusal.TheVariants.{TableBits}
 use Rattle.refusal.specs.Faults.{fault_at}
 use Rattle.layout.specs.declared.shape.Shape.{Shape}
 use Rattle.layout.specs.Text.{row_text}
-use Rattle.sheet_format.specs.declared.role.Role.{Role}
-use Rattle.sheet_format.specs.declared.role.Role.TheVariants.{Alone, Target, Specification}
+use Rattle.refusal.specs.declared.role.Role.{Role}
+use Rattle.refusal.specs.declared.role.Role.TheVariants.{Alone, Target, Specification}
 use Rattle.sheet_format.specs.Rows.{gate_text, output_text}
-use Rattle.sheet_format.specs.Shapes.{header_shape, gate_shape, output_shape}
+use Rattle.sheet_format.specs.Shapes.{lowest, highest, header_shape, gate_shape, output_shape}
 use Rattle.sheet_format.specs.Decoding.{letter, fields_of, number, numbers, filled, inputs_from, gate_from, kind_in, gate_in}
 use Rattle.sheet_format.specs.FirstFault.{unless, row_fault, header_fault, gate_fault, output_fault, names_gate, may_stand}
+use Rattle.sheet_format.proofs.Bounds.{input_bounds}
 use Rattle.sheet_format.proofs.SoundLooks.{all_passed, test_passed}
 use Rattle.sheet_format.proofs.SoundRow.{RowHolds, row_passed}
 
@@ -68,14 +69,14 @@ pub output_passed : (n : ℕ) (row : List ℕ) → length row ≡ 32 → output_
 output_passed n row e none = output_holds n row _ (row_passed _ _ row e none)
 
 -- the letter that names a kind is the kind's
-letter_here : (b : Bool) (k : Kind) (rest : Option Kind) (x : ℕ) → eqb x (letter_of k) ≡ b → (is_some rest ≡ true → letter_of (unwrap_or rest Table) ≡ x)
+letter_here : (b : Bool) (k : Kind) (rest : Option Kind) (x : ℕ) → eqb (letter_of k) x ≡ b → (is_some rest ≡ true → letter_of (unwrap_or rest Table) ≡ x)
     → is_some (cond b (Some k) rest) ≡ true → letter_of (unwrap_or (cond b (Some k) rest) Table) ≡ x
-letter_here true k rest x is later e = sym (eqb-true x (letter_of k) is)
+letter_here true k rest x is later e = eqb-true (letter_of k) x is
 letter_here false k rest x is later e = later e
 
 pub letter_named : (ks : List Kind) (x : ℕ) → is_some (kind_among ks x) ≡ true → letter_of (unwrap_or (kind_among ks x) Table) ≡ x
 letter_named [] x e = let no : ◌≡◌ {A = ℕ} 0 1 = cc in absurd (omega arith)
-letter_named (k ∷ ks) x e = letter_here (eqb x (letter_of k)) k (kind_among ks x) x refl (letter_named ks x) e
+letter_named (k ∷ ks) x e = letter_here (eqb (letter_of k) x) k (kind_among ks x) x refl (letter_named ks x) e
 
 -- how many inputs a kind takes
 unary_takes : (u : Unary) → (fewest_inputs (kinds.TheVariants.Unary u) ≡ 1) × (most_inputs (kinds.TheVariants.Unary u) ≡ 1)
@@ -120,20 +121,20 @@ gate_kind (kinds.TheVariants.Binary o) k ns = refl
 gate_kind kinds.TheVariants.Table k ns = refl
 
 -- the numbers after the first are nets below the gate's own, and past them stands net 1
-nets_below : (own k a : ℕ) (xs ns : List ℕ) → take k ns ≡ a ∷ xs → length ns ≡ 6 → 2 ≤ k → k ≤ 6
-    → ((j : ℕ) → j < k → get_or (own ∷ replicate 5 1) j 0 ≤ get_or ns j 0)
-    → ((j : ℕ) → j < k → get_or ns j 0 ≤ get_or (own ∷ replicate 5 (own - 1)) j 0)
+nets_below : (own : ℕ) (x : Kind) (k a : ℕ) (xs ns : List ℕ) → take k ns ≡ a ∷ xs → length ns ≡ 6 → 2 ≤ k → k ≤ 6
+    → ((j : ℕ) → j < k → lowest (gate_shape own x) j ≤ get_or ns j 0)
+    → ((j : ℕ) → j < k → get_or ns j 0 ≤ highest (gate_shape own x) j)
     → (j : ℕ) → Net (own - 1) (get_or xs j 1)
-nets_below own k a xs ns e long two six low high j =
+nets_below own x k a xs ns e long two six low high j =
     let count : suc (length xs) ≡ k = sym (ap length e) ∙ simp length-take (omega arith) in
     elim (cases_lt j (length xs)) [
       | inl l ↦
           let at : get_or ns (suc j) 0 ≡ get_or xs j 1 =
           sym (get_or-take k ns (suc j) 0 (omega arith)) ∙ ap (λ ys. get_or ys (suc j) 0) e ∙ get_or_default xs j 0 1 l in
-          let least : get_or (replicate 5 1) j 0 ≤ get_or ns (suc j) 0 = low (suc j) (omega arith) in
-          let most : get_or ns (suc j) 0 ≤ get_or (replicate 5 (own - 1)) j 0 = high (suc j) (omega arith) in
-          let few : j < 5 = omega arith in
-          (omega (arith, get_or-replicate {A = ℕ} 5 j 1 0 few), omega (arith, get_or-replicate 5 j (own - 1) 0 few))
+          let are = input_bounds own x j (omega arith) in
+          let least = low (suc j) (omega arith) in
+          let most = high (suc j) (omega arith) in
+          (rw (← at) (rw are.0 at least), rw (← at) (rw are.1 at most))
       | inr l ↦ let past = get_or_past xs j 1 l in (omega arith, omega (arith, low 1 (omega arith), high 1 (omega arith)))
     ]
 
@@ -150,7 +151,7 @@ gate_holds x b own k row e h =
     let first : a ≡ own = omega (arith, h.fields.low 0 (omega arith), h.fields.high 0 (omega arith)) in (
       h.written ∙ ap (row_text (letter row)) (are ∙ ap (λ n. n ∷ nets g) first)
           ∙ ap (λ l. row_text l (own ∷ nets g)) (sym e ∙ ap letter_of (sym (gate_kind x k ns))),
-      nets_below own k a (nets g) ns are refl (omega arith) h.fields.within h.fields.low h.fields.high,
+      nets_below own x k a (nets g) ns are refl (omega arith) h.fields.within h.fields.low h.fields.high,
     )
 
 -- a gate of a specification has no setting rows

@@ -10,10 +10,10 @@ use Rattle.circuit.specs.Kinds.{all_kinds, kind_among}
 use Rattle.circuit.specs.Gates.{own_rows, total_rows}
 use Rattle.layout.specs.declared.shape.Shape.{Shape}
 use Rattle.layout.specs.Text.{decoded, blank, numeral}
-use Rattle.sheet_format.specs.declared.role.Role.{Role}
-use Rattle.sheet_format.specs.declared.role.Role.TheVariants.{Alone, Target, Specification}
+use Rattle.refusal.specs.declared.role.Role.{Role}
+use Rattle.refusal.specs.declared.role.Role.TheVariants.{Alone, Target, Specification}
 use Rattle.sheet_format.specs.Rows.{size}
-use Rattle.sheet_format.specs.Shapes.{header_shape, gate_shape, output_shape}
+use Rattle.sheet_format.specs.Shapes.{lowest, highest, header_shape, gate_shape, output_shape}
 use Rattle.sheet_format.specs.Decoding.{row_at, letter, fields_of, field, filled_below, kind_named, kind_in, gate_in, inputs_in, gates_in, outputs_in, gates_read}
 
 -- the fault, unless the look is passed
@@ -38,7 +38,7 @@ first_below (suc n) look = or_else (first_below n look) (look n)
 abbrev pub at_row : ℕ → Option Fault → Option Fault
 at_row k f = option_map (moved_to_row k) f
 
-abbrev pub at_sheet : ℕ → Option Fault → Option Fault
+abbrev pub at_sheet : Role → Option Fault → Option Fault
 at_sheet k f = option_map (moved_to_sheet k) f
 
 -- Field j holds x, and k of the fields before it are filled. It may be blank where it is not needed, and be filled, with a
@@ -48,7 +48,7 @@ well_formed s j k x = cond (blank x) (nat_le s.needed j) (numeral x && (nat_lt j
 
 -- a filled field's number is in its range
 abbrev pub in_range : Shape → ℕ → List ℕ → Bool
-in_range s j x = blank x || (nat_le (slice_index s.lows j) (decoded x) && nat_le (decoded x) (slice_index s.highs j))
+in_range s j x = blank x || (nat_le (lowest s j) (decoded x) && nat_le (decoded x) (highest s j))
 
 -- a field's form before its range, at the field's first column
 unfoldable pub field_fault : Shape → ℕ → ℕ → List ℕ → Option Fault
@@ -122,4 +122,4 @@ after_target t = drop (size (gates_in t) (outputs_in t)) t
 
 -- the target first, then the specification from right after it
 abbrev pub pair_fault : List ℕ → Option Fault
-pair_fault t = or_else (at_sheet 1 (sheet_fault Target t)) (at_sheet 2 (sheet_fault Specification (after_target t)))
+pair_fault t = or_else (at_sheet Target (sheet_fault Target t)) (at_sheet Specification (sheet_fault Specification (after_target t)))

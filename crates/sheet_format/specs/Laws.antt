@@ -1,7 +1,7 @@
 -- What reading and writing owe each other.
 use Rattle.std.specs.Prelude.{◌≡◌, ℕ, List, None}
 use Rattle.circuit.specs.Gates.{Sheet, Lawful, Plain}
-use Rattle.sheet_format.specs.declared.role.Role.TheVariants.{Alone}
+use Rattle.refusal.specs.declared.role.Role.TheVariants.{Alone}
 use Rattle.sheet_format.specs.Rows.{rows, pair_rows}
 use Rattle.sheet_format.specs.FirstFault.{sheet_fault, pair_fault}
 

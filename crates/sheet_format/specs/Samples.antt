@@ -7,7 +7,7 @@ use Rattle.circuit.specs.declared.gate.Gate.{Gate}
 use Rattle.circuit.specs.declared.gate.Gate.TheVariants.{Table}
 use Rattle.circuit.specs.Gates.{Sheet}
 use Rattle.layout.specs.Text.{field_value, row_text}
-use Rattle.sheet_format.specs.declared.role.Role.TheVariants.{Alone}
+use Rattle.refusal.specs.declared.role.Role.TheVariants.{Alone}
 use Rattle.sheet_format.specs.Rows.{rows}
 use Rattle.sheet_format.specs.FirstFault.{output_fault, gate_fault, sheet_fault}
 

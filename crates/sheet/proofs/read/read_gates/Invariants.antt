@@ -3,4 +3,4 @@ use Rattle.sheet.proofs.Loops.{Gathered}
 use Rattle.sheet.proofs.read.read_gates.Given as goal
 
 abbrev pub invariant-loop-i : goal.invariant-loop-i
-invariant-loop-i l = Gathered l.role l.bytes (vec_items l.gates) (vec_len l.gates) (vec_capacity l.gates) l.used l.i
+invariant-loop-i l = Gathered l.role l.inputs l.rows (vec_items l.gates) (vec_len l.gates) (vec_capacity l.gates) l.used l.i-counter
