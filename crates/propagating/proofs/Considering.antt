@@ -1,24 +1,23 @@
 -- A clause of a search that was looked at: what its status says, and where its literal goes.
-use Rattle.std.proofs.Common.{◌≡◌, ℕ, ◌+◌, ◌<◌, ◌≤◌, true, false, List, length, get_or, take, drop, vec_items, refl, sym, ap, ◌∙◌, subst, arith}
+use Rattle.std.proofs.Common.{◌≡◌, ℕ, ◌+◌, ◌<◌, ◌≤◌, true, false, List, length, get_or, drop, vec_items, refl, sym, ap, ◌∙◌, subst, arith}
 use Rattle.clause.specs.Logic.{Row, Clause, some_outside, all_hold, all_inside, negation}
 use Rattle.clause.specs.Memory.{Begins, encode}
 use Rattle.clause.proofs.Inside.{Within, within}
 use Rattle.clause.specs.declared.literal.Literal.{Literal}
 use Rattle.trail.specs.Cells.{values_of, entries_of, literals_of, formula, size_at, clause_at, empty_word, empty_entry}
-use Rattle.trail.specs.Values.{assign, status}
-use Rattle.trail.specs.Debt.{debt}
-use Rattle.trail.specs.Standing.{Standing}
+use Rattle.trail.specs.Values.{status}
+use Rattle.trail.specs.declared.cells.Entry.{Entry}
 use Rattle.trail.specs.declared.cells.Slot.{Slot}
 use Rattle.trail.specs.declared.cells.Word.{Word}
 use Rattle.trail.specs.declared.status.Status.TheVariants.{Unit, Falsified}
 use Rattle.trail.proofs.Looks.{there, begins_here}
 use Rattle.trail.proofs.Slots.{field_at}
-use Rattle.trail.proofs.Soundness.{fresh_at}
+use Rattle.trail.proofs.Soundness.{fresh_at, pushed}
 use Rattle.trail.specs.Trail.{literal_at}
-use Rattle.trail.proofs.Verdicts.{MayPut, may_put, follows, conflict}
+use Rattle.trail.proofs.Verdicts.{MayPut, may_put, conflict}
 use Rattle.propagating.specs.declared.search.Search.{Search}
-use Rattle.propagating.specs.Parts.{clauses_in, values_in, owes, Refutes, Keeps, Goes}
-use Rattle.propagating.proofs.Lent.{Put}
+use Rattle.propagating.specs.Parts.{clauses_in, values_in, Refutes, Keeps, Goes}
+use Rattle.propagating.proofs.Lent.{Put, Further, further}
 
 abbrev BeginsIn : Search → ℕ → Type 0
 BeginsIn s head = Begins s.slots.len (literals_of s.words.items) (clauses_in s) head
@@ -57,16 +56,12 @@ unit_there s head words clause slots l b w e k u =
     may_put s.slots.len (clauses_in s) s.progress.trail (values_in s) (entries_of s.slots.items) (literals_of (clause_at s.words.items head)) l s.standing t.entailed t.clause.inside
     (sym (u ∙ ap (λ x. status (values_of x) (literals_of clause)) k ∙ ap (status (values_in s)) (same_clause s head words clause w e)))
 
--- The literal is put last: the search stands and owes no more.
+-- The literal is put last.
 pub forced : (s : Search) (l : Literal) (ss : List Slot) → MayPutIn s l → Put s.progress.trail (record { literal = l; decided = false }) s.slots.items ss
-    → Standing s.slots.len (clauses_in s) (s.progress.trail + 1) (values_of ss) (entries_of ss) × (debt s.slots.len (take (s.progress.trail + 1) (entries_of ss)) ≤ owes s)
+    → Further s.slots.len (clauses_in s) s.progress.trail s.slots.items (s.progress.trail + 1) ss
 forced s l ss m p =
-    let v : ℕ = s.slots.len in
-    let n : ℕ = s.progress.trail in
-    let o = follows v (clauses_in s) n (values_in s) (entries_of s.slots.items) l s.standing m in (
-      subst (λ x. Standing v (clauses_in s) (n + 1) x (entries_of ss)) (sym p.values) (subst (λ x. Standing v (clauses_in s) (n + 1) (assign (values_in s) l) x) (sym p.entries) o.standing),
-      let same = ap (λ x. debt v (take (n + 1) x)) p.entries in omega (arith, o.owes),
-    )
+    let e : Entry = record { literal = l; decided = false } in
+    further s.slots.len (clauses_in s) s.progress.trail e s.slots.items ss p (pushed s.slots.len (clauses_in s) s.progress.trail (values_in s) (entries_of s.slots.items) e s.standing m.inside m.opened (λ _. m.forces))
 
 -- From a place on the words hold a rest of the clause list, which holds wherever the list does.
 pub record Rest (s : Search) (head : ℕ) : Type 0 where

@@ -29,7 +29,7 @@ pub invariant_of-self-in-Unit : goal.invariant_of-self-in-Unit
 invariant_of-self-in-Unit c =
     let m = unit_there c.args.self.now c.args.head c.deref.result.now c.clause_at-clause.result.now c.deref-2.result.now c.in-Unit.literal c.requires c.deref.ensures.value c.clause_at-clause.ensures c.deref-2.ensures.value c.in-Unit.ensures in
     let p = put c.args.self.now.slots.items c.deref_mut.result.now c.assign.new.slots c.args.self.now.slots.len c.args.self.now.progress.trail (record { literal = c.in-Unit.literal; decided = false }) c.deref_mut.ensures.value (c.assign.auto.slots ∙ c.deref_mut.ensures.len) c.assign.ensures.values c.assign.ensures.entries in
-    record { loaded = c.args.self.now.loaded; standing = (forced c.args.self.now c.in-Unit.literal _ m p).0 }
+    record { loaded = c.args.self.now.loaded; standing = (forced c.args.self.now c.in-Unit.literal _ m p).standing }
 
 pub returns-in-Falsified-clause-conflict : goal.returns-in-Falsified-clause-conflict
 returns-in-Falsified-clause-conflict c =
@@ -39,4 +39,5 @@ pub returns-in-Unit-clause-goes : goal.returns-in-Unit-clause-goes
 returns-in-Unit-clause-goes c =
     let m = unit_there c.args.self.now c.args.head c.deref.result.now c.clause_at-clause.result.now c.deref-2.result.now c.in-Unit.literal c.requires c.deref.ensures.value c.clause_at-clause.ensures c.deref-2.ensures.value c.in-Unit.ensures in
     let p = put c.args.self.now.slots.items c.deref_mut.result.now c.assign.new.slots c.args.self.now.slots.len c.args.self.now.progress.trail (record { literal = c.in-Unit.literal; decided = false }) c.deref_mut.ensures.value (c.assign.auto.slots ∙ c.deref_mut.ensures.len) c.assign.ensures.values c.assign.ensures.entries in
-    record { keeps = record { words = refl; variables = refl; room = refl }; debt = (forced c.args.self.now c.in-Unit.literal _ m p).1 }
+    let f = forced c.args.self.now c.in-Unit.literal _ m p in
+    record { keeps = record { words = refl; variables = refl; room = refl }; debt = omega (arith, f.owes) }
