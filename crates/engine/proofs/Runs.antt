@@ -1,5 +1,5 @@
 -- Many steps one after another: what they keep, that they lower the debt, and that the answer is right.
-use Rattle.std.proofs.Common.{◌≡◌, ℕ, zero, suc, ◌+◌, ◌*◌, ◌^◌, ◌<◌, ◌≤◌, true, false, List, None, sym, refl, ap, ◌∙◌, subst, add-one, arith, pow_pos}
+use Rattle.std.proofs.Common.{◌≡◌, ℕ, zero, suc, ◌+◌, ◌*◌, ◌^◌, ◌<◌, ◌≤◌, true, false, List, None, refl, ap, ◌∙◌, subst, add-one, arith, pow_pos}
 use borrow.Author.Tests.{both_ways}
 use native.Mathlib.Nat.{pow-succ'}
 use Rattle.clause.specs.Logic.{Clause, Solves}
@@ -54,9 +54,6 @@ went (suc k) e e' m =
           let left : owed e' ≡ q.0 = ap (owed_in e'.variables) q.1 in
           omega (arith, w.debt h, q.3, left);
     }
-
-pub one_more : (k : ℕ) (e m e' : View) → Mores k e m → StepsTo m More e' → Mores (k + 1) e e'
-one_more k e m e' w s = subst (λ n. Mores n e e') (sym (add-one k)) (m, w, s)
 
 -- from idle there is always a step to make
 pub idle_owes : (e : View) → e.state ≡ idle → (owed e ≡ allowance e.variables) × (1 ≤ owed e)

@@ -8,7 +8,7 @@ ghost use Rattle.engine.specs.declared.types.Phase.TheVariants.{Idle};
 
 use crate::search::STEP_LIMIT;
 use crate::types::{Phase, Places};
-use clause::clause::some_outside;
+use clause::clause::{outside, some_outside};
 use clause::literal::Literal;
 use refusal::refusal::Refusal;
 
@@ -72,7 +72,7 @@ impl Control {
     pub fn may_tell(&self, variables: usize, variable: usize) -> Result<(), Refusal>
         ensures { Tested (question_refusal (at_model self.now.phase) variables variable) result }
     {
-        if variable < 1 || variables < variable {
+        if outside(variables, variable) {
             return Err(Refusal::VariableRange);
         }
         if self.phase != Phase::Model {
