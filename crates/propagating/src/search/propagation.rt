@@ -21,8 +21,9 @@ fn truth(slots: &[Slot], literal: Literal) -> Option<bool>
     requires { outside (length slots.now) literal.variable ≡ false }
     ensures { result ≡ truth (values_of slots.now) literal }
 {
-    let value = slots[literal.variable - 1].value;
-    value.map(|value| value != literal.negated)
+    slots[literal.variable - 1]
+        .value
+        .map(|value| value != literal.negated)
 }
 
 /// What the values so far make of a clause.
@@ -82,7 +83,7 @@ impl Search {
     }
 
     /// Looks at the clauses of a word and of the older words that it leads to.
-    /// A link always leads to an older word, so the walk ends where one does not.
+    // The walk goes by links, which no iterator of std follows. A link leads to an older word, so the walk ends where one does not.
     fn visit(&mut self, newest: Option<usize>) -> Result<(), Conflict>
         ensures goes { Goes self.old self.new }
         ensures conflict { OnErr result (Refutes self.new) }
@@ -106,7 +107,7 @@ impl Search {
         ensures conflict { OnErr result (Refutes self.new) }
     {
         let mut position = self.progress.propagated;
-        // The trail grows on the way.
+        // The trail grows on the way, so a range up to its length would end too early.
         while position < self.progress.trail {
             let negation = self.slots[position].entry.literal.negation();
             position += 1;
@@ -123,7 +124,7 @@ impl Search {
         ensures conflict { OnErr result (Refutes self.new) }
     {
         let mut head = 0;
-        // A clause looked at changes the search, so no iterator can hold its words on the way.
+        // Looking at a clause changes the search, so an iterator over its words cannot live on the way.
         while head < self.words.len() {
             self.consider(head)?;
             head = head + 1 + self.words[head].literal.variable;
