@@ -5,68 +5,68 @@
 use circuit::circuit::Circuit;
 use sheet::read::load_pair;
 use std::io;
-use std::io::Read;
 use std::time::Instant;
+use streams::read_bytes;
 use value::bit::Bit;
 use value::evaluate::evaluate;
+use value::kind::Algebra;
 use value::word::Word;
 
-/// One row more than the longest pair has.
-const LONGEST: u64 = 13_920;
-
-/// How often the circuit is evaluated, a lane counting as once.
+/// At how many input words the circuit is evaluated.
 const WORDS: u64 = 262_144;
 
-fn put_bits(number: u64, places: &mut [Bit]) {
+/// A kind of value to measure.
+trait Measured: Algebra + Copy + From<bool> {
+    /// How many evaluations serve all the words: a lane serves one.
+    const EVALUATIONS: u64;
+
+    /// In how many of its lanes the value is 1.
+    fn ones(self) -> u64;
+}
+
+impl Measured for Bit {
+    const EVALUATIONS: u64 = WORDS;
+
+    fn ones(self) -> u64 {
+        u64::from(self.value)
+    }
+}
+
+impl Measured for Word {
+    const EVALUATIONS: u64 = WORDS / 64;
+
+    fn ones(self) -> u64 {
+        u64::from(self.bits.count_ones())
+    }
+}
+
+/// Writes the bits of a number, each in every lane of its place.
+fn put<K: Copy + From<bool>>(number: u64, places: &mut [K]) {
     let mut left = number;
     for place in places.iter_mut() {
-        *place = Bit {
-            value: left & 1 == 1,
-        };
+        *place = K::from(left & 1 == 1);
         left >>= 1;
     }
 }
 
-fn put_words(number: u64, places: &mut [Word]) {
-    let mut left = number;
-    for place in places.iter_mut() {
-        *place = Word {
-            bits: if left & 1 == 1 { u64::MAX } else { 0 },
-        };
-        left >>= 1;
-    }
-}
-
-/// One input word at a time; how often the first gate's net was 1, so that no evaluation can be left out.
-fn by_bits(circuit: &Circuit) -> u64 {
-    let m = circuit.rows().min(64);
-    let n = usize::from(circuit.inputs).min(16);
-    let rows = [Bit { value: true }; 64];
-    let mut inputs = [Bit { value: false }; 16];
-    let mut nets = [Bit { value: false }; 216];
+/// Evaluates the circuit; in how many lanes the first gate's net was 1, so that no evaluation can be left out.
+fn evaluations<K: Measured>(rt: &HostRuntime, circuit: &Circuit) -> io::Result<u64> {
+    let n = usize::from(circuit.inputs);
+    let rows = vec![in rt.alloc(); K::from(true); circuit.rows()]?;
+    let mut inputs = vec![in rt.alloc(); K::from(false); n]?;
+    let mut nets = vec![in rt.alloc(); K::from(false); n + circuit.gates.len()]?;
     let mut ones = 0u64;
-    for word in 0..WORDS {
-        put_bits(word, &mut inputs);
-        let _ = evaluate(circuit, &rows[0..m], &inputs[0..n], &mut nets);
-        ones = ones.wrapping_add(u64::from(nets[n].value));
+    for word in 0..K::EVALUATIONS {
+        put(word, inputs.as_mut_slice());
+        let _ = evaluate(
+            circuit,
+            rows.as_slice(),
+            inputs.as_slice(),
+            nets.as_mut_slice(),
+        );
+        ones = ones.wrapping_add(nets[n].ones());
     }
-    ones
-}
-
-/// In 64 lanes at a time; in how many lanes the first gate's net was 1.
-fn by_words(circuit: &Circuit) -> u64 {
-    let m = circuit.rows().min(64);
-    let n = usize::from(circuit.inputs).min(16);
-    let rows = [Word { bits: u64::MAX }; 64];
-    let mut inputs = [Word { bits: 0 }; 16];
-    let mut nets = [Word { bits: 0 }; 216];
-    let mut ones = 0u64;
-    for block in 0..WORDS / 64 {
-        put_words(block, &mut inputs);
-        let _ = evaluate(circuit, &rows[0..m], &inputs[0..n], &mut nets);
-        ones = ones.wrapping_add(u64::from(nets[n].bits.count_ones()));
-    }
-    ones
+    Ok(ones)
 }
 
 /// Gate evaluations a second.
@@ -77,15 +77,18 @@ fn rate(gates: usize, nanos: u128) -> u128 {
         / nanos.max(1)
 }
 
+/// In how many lanes the first gate's net was 1, and the gate evaluations a second.
+fn timed<K: Measured>(rt: &HostRuntime, circuit: &Circuit) -> io::Result<(u64, u128)> {
+    let start = Instant::now(rt)?;
+    let ones = evaluations::<K>(rt, circuit)?;
+    let nanos = start.elapsed(rt)?.as_nanos();
+    Ok((ones, rate(circuit.gates.len(), nanos)))
+}
+
 fn measure(rt: &HostRuntime, circuit: &Circuit) -> io::Result<()> {
     let gates = circuit.gates.len();
-    let start = Instant::now(rt)?;
-    let a = by_bits(circuit);
-    let one = start.elapsed(rt)?.as_nanos();
-    let start = Instant::now(rt)?;
-    let b = by_words(circuit);
-    let many = start.elapsed(rt)?.as_nanos();
-    let (slow, fast) = (rate(gates, one), rate(gates, many));
+    let (a, slow) = timed::<Bit>(rt, circuit)?;
+    let (b, fast) = timed::<Word>(rt, circuit)?;
     let times = fast / slow.max(1);
     eprintln!(rt; "{gates} gates, {WORDS} evaluations ({a}, {b})")?;
     eprintln!(rt; "one at a time: {slow} gate evaluations a second")?;
@@ -93,8 +96,7 @@ fn measure(rt: &HostRuntime, circuit: &Circuit) -> io::Result<()> {
 }
 
 fn main(rt: HostRuntime) -> io::Result<()> {
-    let mut bytes = Vec::new(rt.alloc());
-    rt.stdin().take(LONGEST).read_to_end(&mut bytes)?;
+    let bytes = read_bytes(rt.alloc(), rt.stdin())?;
     match load_pair(rt.alloc(), bytes.as_slice()) {
         Ok(pair) => measure(&rt, &pair.target),
         Err(fault) => eprintln!(rt; "{fault}"),

@@ -1,5 +1,5 @@
 -- What a gate reads, and what makes a circuit lawful.
-use Rattle.std.specs.Prelude.{◌≡◌, ℕ, ◌+◌, ◌^◌, ◌≤◌, List, [], ◌∷◌, ◌++◌, length, take, count_by, codes, decimal, nat_eq, sum_by, slice_index_or}
+use Rattle.std.specs.Prelude.{◌≡◌, ℕ, ◌+◌, ◌^◌, ◌≤◌, List, [], ◌∷◌, ◌++◌, length, take, count_by, codes, decimal, nat_eq, slice_index_or}
 use Rattle.circuit.specs.Kinds.{letter_of}
 use Rattle.circuit.specs.declared.gate.Inputs.{Inputs}
 use Rattle.circuit.specs.declared.gate.Inputs.TheVariants.{One, Two, Three, Four}
@@ -35,7 +35,8 @@ own_rows (Table t) = 2 ^ length (named t)
 
 -- the setting rows of all gates
 abbrev pub total_rows : List Gate → ℕ
-total_rows gates = sum_by own_rows gates
+total_rows [] = 0
+total_rows (g ∷ gs) = own_rows g + total_rows gs
 
 -- the setting row that is the first of gate i, counted from 0: the rows of the tables before it come first
 abbrev pub first_row : List Gate → ℕ → ℕ

@@ -8,6 +8,7 @@ use crate::gate::Kind;
 
 impl Circuit {
     /// The number of setting rows: those of all tables together.
+    #[tactic(auto, using(crate::proofs::Rows::rows_sum))]
     pub fn rows(&self) -> usize
         ensures { result ≡ total_rows (drawn self.now).gates }
     {
@@ -15,6 +16,7 @@ impl Circuit {
     }
 
     /// The setting row that is the first of gate i, counted from 0; past the last gate, the number of setting rows.
+    #[tactic(auto, using(crate::proofs::Rows::rows_sum, crate::proofs::Rows::sum_front))]
     pub fn first_row(&self, i: usize) -> usize
         ensures { result ≡ first_row (drawn self.now).gates i }
     {

@@ -77,32 +77,6 @@ stored old new c e h =
     let back : clauses_of new ≡ clauses_of old ++ (c ∷ []) = ap clauses_of whole ∙ clauses_encode (clauses_of old ++ (c ∷ [])) in
     record { clauses = back; coded = ap encode back ∙ sym whole }
 
--- What the code reads where a clause begins: its end, and the clauses after it.
-pub record Facing (v : ℕ) (ws : List Literal) (rest : List Clause) (slice : Clause) (to : ℕ) : Type 0 where
-  pub later : List Clause
-  pub within : to ≤ length ws
-  pub inside : some_outside v slice ≡ false
-  pub later_inside : all_inside v later ≡ true
-  pub is : rest ≡ slice ∷ later
-  pub goes_on : drop to ws ≡ encode later
-
-pub facing : (v : ℕ) (ws : List Literal) (at : ℕ) (rest : List Clause) → at < length ws → drop at ws ≡ encode rest → all_inside v rest ≡ true
-    → Facing v ws rest (take (at + 1 + (get_or ws at no_literal).variable - (at + 1)) (drop (at + 1) ws)) (at + 1 + (get_or ws at no_literal).variable)
-facing v ws at rest h e i =
-    let f = front ws at rest h e in
-    let size : ℕ = (get_or ws at no_literal).variable in
-    let many : at + 1 + size - (at + 1) ≡ length f.clause = omega (arith, f.size) in
-    let part : take (at + 1 + size - (at + 1)) (drop (at + 1) ws) ≡ f.clause = ap (λ k. take k (drop (at + 1) ws)) many ∙ f.reads in
-    let both = both_true (some_outside v f.clause) (all_inside v f.later) (sym (ap (all_inside v) f.is) ∙ i) in
-    record {
-      later = f.later;
-      within = omega (arith, f.fits, f.size);
-      inside = ap (some_outside v) part ∙ both.0;
-      later_inside = both.1;
-      is = f.is ∙ ap (λ x. x ∷ f.later) (sym part);
-      goes_on = ap (λ k. drop (at + 1 + k) ws) f.size ∙ f.goes_on;
-    }
-
 -- At every head a clause begins.
 pub begins_at : (v : ℕ) (ws : List Literal) (cs : List Clause) (h : ℕ) → ws ≡ encode cs → all_inside v cs ≡ true → is_head cs h ≡ true → Begins v ws cs h
 begins_at v ws [] h e i t = absurd (both_ways false refl t)

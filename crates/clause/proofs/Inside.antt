@@ -1,5 +1,5 @@
 -- Literals of a clause within the variables 1 to v, one by one.
-use Rattle.std.proofs.Common.{◌≡◌, ℕ, ◌+◌, ◌<◌, ◌≤◌, Bool, true, false, cond, ltb, List, [], ◌∷◌, ◌++◌, length, get_or, drop, sym, refl, ap, ◌∙◌, arith, ltb-false, le-ltb, lt-ltb}
+use Rattle.std.proofs.Common.{◌≡◌, ℕ, ◌+◌, ◌<◌, ◌≤◌, Bool, true, false, cond, ltb, List, [], ◌∷◌, ◌++◌, length, get_or, drop, sym, refl, ap, ◌∙◌, arith, ltb-false, le-ltb}
 use borrow.Author.Tests.{both_ways}
 use Rattle.std.proofs.lemmas.List.{drop_more}
 use Rattle.clause.specs.Logic.{Clause, outside, some_outside, all_inside}
@@ -39,21 +39,6 @@ not_outside v x a b =
 -- the literal at a place, and what is left after it
 pub outside_at : (v : ℕ) (c : Clause) (i : ℕ) → i < length c → some_outside v (drop i c) ≡ cond (outside v (get_or c i no_literal).variable) true (some_outside v (drop (i + 1) c))
 outside_at v c i h = ap (some_outside v) (drop_more c i no_literal h)
-
-pub low_outside : (v : ℕ) (c : Clause) (i : ℕ) → i < length c → (get_or c i no_literal).variable < 1 → some_outside v (drop i c) ≡ true
-low_outside v c i h l = let t : ltb (get_or c i no_literal).variable 1 ≡ true = lt-ltb _ _ l in outside_at v c i h ∙ rw t
-
-pub high_outside : (v : ℕ) (c : Clause) (i : ℕ) → i < length c → v < (get_or c i no_literal).variable → some_outside v (drop i c) ≡ true
-high_outside v c i h l =
-    let t : ltb v (get_or c i no_literal).variable ≡ true = lt-ltb _ _ l in
-    outside_at v c i h ∙ rw t (go (ltb (get_or c i no_literal).variable 1))
-  where
-    go : (b : Bool) → cond (cond b true true) true (some_outside v (drop (i + 1) c)) ≡ true
-    go true = refl
-    go false = refl
-
-pub next_outside : (v : ℕ) (c : Clause) (i : ℕ) → i < length c → 1 ≤ (get_or c i no_literal).variable → (get_or c i no_literal).variable ≤ v → some_outside v (drop i c) ≡ some_outside v (drop (i + 1) c)
-next_outside v c i h a b = let t = not_outside v (get_or c i no_literal).variable a b in outside_at v c i h ∙ rw t
 
 -- the literal at a place of a clause that lies inside, and that the rest lies inside
 pub record InsideAt (v : ℕ) (c : Clause) (i : ℕ) : Type 0 where

@@ -1,3 +1,4 @@
+pub mod Chains
 pub mod Inside
 pub mod Coding
 pub mod Vectors

@@ -3,3 +3,5 @@
 
 pub mod clause;
 pub mod literal;
+pub mod memory;
+pub mod values;

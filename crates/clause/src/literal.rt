@@ -3,7 +3,7 @@ ghost use Rattle.std.specs.Prelude.{◌≡◌};
 ghost use Rattle.clause.specs.Logic.{negation};
 
 /// A variable, numbered from 1, or its negation.
-#[derive(Clone, Copy)]
+#[derive(Clone, Copy, Debug, PartialEq, Eq)]
 pub struct Literal {
     pub variable: usize,
     pub negated: bool,
@@ -15,8 +15,8 @@ impl Literal {
         ensures { result ≡ negation self }
     {
         Literal {
-            variable: self.variable,
             negated: !self.negated,
+            ..self
         }
     }
 }

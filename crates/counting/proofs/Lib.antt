@@ -1,4 +1,2 @@
 pub mod Order
-pub mod Clauses
-pub mod Lent
 pub mod Steps

@@ -1,9 +1,9 @@
 -- Rows of values in counting order: counting up value by value, and the number of a row.
-use Rattle.std.proofs.Common.{◌≡◌, ℕ, zero, suc, ◌+◌, ◌^◌, ◌<◌, ◌≤◌, true, false, ◌⊎◌, List, [], ◌∷◌, ◌++◌, length, get_or, take, drop, set, replicate, sym, refl, ap, ◌∙◌, inl, inr, append_assoc, append-nil, add-one, arith, take_all, drop-set-lt, pow_pos}
+use Rattle.std.proofs.Common.{◌≡◌, ℕ, zero, suc, ◌+◌, ◌^◌, ◌<◌, ◌≤◌, true, false, ◌⊎◌, List, [], ◌∷◌, ◌++◌, length, get_or, take, drop, set, replicate, sym, refl, ap, ◌∙◌, inl, inr, add-one, arith, pow_pos}
 use native.Mathlib.Nat.{pow-succ'}
 use borrow.Author.Tests.{both_ways}
 use lib.Seq.{set_split}
-use Rattle.std.proofs.lemmas.List.{drop_all, drop_more, take_more_set}
+use Rattle.std.proofs.lemmas.List.{drop_more}
 use Rattle.std.proofs.lemmas.Bool.{cases_lt}
 use Rattle.clause.specs.Logic.{Row, Clause, all_hold}
 use Rattle.counting.specs.Rows.{number, some_false, next}
@@ -14,33 +14,11 @@ pub record Up (first now : Row) (i : ℕ) : Type 0 where
   pub row : take i now ++ next (drop i now) ≡ next first
   pub more : some_false (drop i now) ≡ some_false first
 
-pub up_start : (row : Row) → Up row row 0
-up_start [] = record { row = refl; more = refl }
-up_start (b ∷ row) = record { row = refl; more = refl }
-
 pub up_ends : (first now : Row) (i : ℕ) → i < length now → get_or now i false ≡ false → Up first now i → (true ≡ some_false first) × (set now i true ≡ next first)
 up_ends first now i h b u =
     let cut : drop i now ≡ false ∷ drop (i + 1) now = drop_more now i false h ∙ ap (λ x. x ∷ drop (i + 1) now) b in
     let split : set now i true ≡ take i now ++ (true ∷ drop (i + 1) now) = set_split now i true h ∙ ap (λ k. take i now ++ (true ∷ drop k now)) (sym (add-one i)) in
     (sym (ap some_false cut) ∙ u.more, split ∙ sym (ap (λ x. take i now ++ next x) cut) ∙ u.row)
-
-pub up_more : (first now : Row) (i : ℕ) → i < length now → get_or now i false ≡ true → Up first now i → Up first (set now i false) (i + 1)
-up_more first now i h b u =
-    let cut : drop i now ≡ true ∷ drop (i + 1) now = drop_more now i false h ∙ ap (λ x. x ∷ drop (i + 1) now) b in
-    let front : take (i + 1) (set now i false) ≡ take i now ++ (false ∷ []) = take_more_set now i false h in
-    let back : drop (i + 1) (set now i false) ≡ drop (i + 1) now = drop-set-lt (i + 1) now i false (omega arith) in
-    record {
-      row = ap (λ x. x ++ next (drop (i + 1) (set now i false))) front ∙ ap (λ x. (take i now ++ (false ∷ [])) ++ next x) back
-          ∙ append_assoc (take i now) (false ∷ []) (next (drop (i + 1) now)) ∙ sym (ap (λ x. take i now ++ next x) cut) ∙ u.row;
-      more = ap some_false back ∙ sym (ap some_false cut) ∙ u.more;
-    }
-
-pub up_all : (first now : Row) (i : ℕ) → length now ≤ i → Up first now i → (false ≡ some_false first) × (now ≡ next first)
-up_all first now i h u =
-    let none : drop i now ≡ [] = drop_all i now h in (
-      sym (ap some_false none) ∙ u.more,
-      sym (take_all i now h) ∙ sym (append-nil (take i now)) ∙ sym (ap (λ x. take i now ++ next x) none) ∙ u.row,
-    )
 
 -- The number of a row.
 pub number_below : (r : Row) → number r < 2 ^ length r

@@ -1,47 +1,53 @@
 -- What a step comes to: the row holds, or one row more has failed.
-use Rattle.std.proofs.Common.{◌≡◌, ℕ, ◌+◌, ◌-◌, ◌*◌, ◌^◌, ◌<◌, ◌≤◌, true, false, List, length, replicate, sym, refl, ap, ◌∙◌, subst, add-one, arith, pow_pos}
-use native.Mathlib.Nat.{pow-succ'}
+use Rattle.std.proofs.Common.{◌≡◌, ℕ, ◌-◌, ◌^◌, ◌<◌, Bool, true, false, List, ◌++◌, map, length, take, drop, replicate, sym, refl, ap, ◌∙◌, subst, arith, take_at}
 use borrow.Author.Tests.{both_ways}
-use lib.ListN.{length-replicate}
+use Rattle.std.proofs.lemmas.List.{map-id}
 use Rattle.clause.specs.Logic.{Row, Clause, all_hold}
+use Rattle.clause.specs.Memory.{clauses_of}
+use Rattle.clause.specs.declared.literal.Literal.{Literal}
 use Rattle.engine.specs.Calls.{Seeks}
-use Rattle.engine.specs.View.{allowance, owed_in}
+use Rattle.engine.specs.View.{owed_in}
 use Rattle.engine.specs.View.State.{none}
 use Rattle.engine.specs.declared.types.Answer.TheVariants.{More, Unsatisfiable}
 use Rattle.counting.specs.Meaning.{state_of}
 use Rattle.counting.specs.Rows.{number, some_false, next}
 use Rattle.counting.specs.Tried.{Tried}
 use Rattle.engine.specs.declared.types.Phase.{Phase}
-use Rattle.engine.specs.declared.types.Phase.TheVariants.{Searching}
+use Rattle.engine.specs.declared.types.Phase.TheVariants.{Idle, Searching}
 use Rattle.counting.proofs.Order.{number_below, number_next, number_last, number_first, next_length, fails_up_to}
 
--- the first row: none is before it, and all of them are owed
+-- before a search there is nothing to keep
+pub idle_tried : (row : Row) (cs : List Clause) → Tried Idle row cs
+idle_tried row cs r x = let z : ◌≡◌ {A = ℕ} 0 1 = cc x.0 in absurd (omega arith)
+
+-- the first row: none is before it
 pub none_before : (row : Row) (n : ℕ) (cs : List Clause) → row ≡ replicate n false → Tried Searching row cs
 none_before row n cs e r x = let zero_row = ap number e ∙ number_first n in absurd (omega (arith, x.1.less))
 
-pub first_owes : (row : Row) (n : ℕ) → row ≡ replicate n false → 2 ^ length row - number row ≤ allowance n
-first_owes row n e =
-    let long : length row ≡ n = ap length e ∙ length-replicate n false in
-    let powers : 2 ^ length row ≡ 2 ^ n = ap (λ k. 2 ^ k) long in
-    let twice : 2 ^ (n + 1) ≡ 2 * 2 ^ n = ap (λ k. 2 ^ k) (add-one n) ∙ pow-succ' 2 n in
-    omega (arith, pow_pos n)
+-- a memory of literals holds those literals
+pub as_held : (row : Row) (words held : List Literal) (t : Bool) → held ≡ words → t ≡ all_hold row (clauses_of (map (λ l. l) held)) → t ≡ all_hold row (clauses_of words)
+as_held row words held t e h = h ∙ ap (λ ws. all_hold row (clauses_of ws)) (map-id held ∙ e)
+
+-- a row that was lent as a slice, and counted up there
+pub counted : (row lent new : Row) (len : ℕ) → length new ≡ len → new ≡ next lent → lent ≡ row → take len (new ++ drop (length new) row) ≡ next row
+counted row lent new len l e same = take_at new (drop (length new) row) len l ∙ e ∙ ap next same
 
 -- the row failed, and there is one after it
-pub tried_next : (p : Phase) (row row' : Row) (cs : List Clause) → p ≡ Searching → row' ≡ next row → true ≡ some_false row → Tried p row cs → false ≡ all_hold row cs → Tried Searching row' cs
+pub tried_next : (p : Phase) (row row' : Row) (cs : List Clause) → p ≡ Searching → row' ≡ next row → true ≡ some_false row → Tried p row cs → false ≡ all_hold row cs → Tried p row' cs
 tried_next p row row' cs ps e s tried fails r x =
     let more = number_next row (sym s) in
     let same = ap number e in
     let long : length row' ≡ length row = ap length e ∙ next_length row in
     fails_up_to row cs (λ q b. tried q (ps, b)) (sym fails) r (x.1.long ∙ long) (omega (arith, x.1.less))
 
-pub seeks_more : (p : Phase) (row row' : Row) (v : ℕ) (cs : List Clause) → p ≡ Searching → row' ≡ next row → true ≡ some_false row → Seeks v cs (owed_in v (state_of p row)) More (state_of Searching row')
+pub seeks_more : (p : Phase) (row row' : Row) (v : ℕ) (cs : List Clause) → p ≡ Searching → row' ≡ next row → true ≡ some_false row → Seeks v cs (owed_in v (state_of p row)) More (state_of p row')
 seeks_more p row row' v cs ps e s =
     let more = number_next row (sym s) in
     let same = ap number e in
     let long : length row' ≡ length row = ap length e ∙ next_length row in
     let below : number row' < 2 ^ length row' = number_below row' in
     let powers : 2 ^ length row' ≡ 2 ^ length row = ap (λ k. 2 ^ k) long in
-    subst (λ q. Seeks v cs (owed_in v (state_of q row)) More (state_of Searching row')) (sym ps) (2 ^ length row' - number row', refl, omega arith, omega arith)
+    subst (λ q. Seeks v cs (owed_in v (state_of q row)) More (state_of q row')) (sym ps) (2 ^ length row' - number row', refl, omega arith, omega arith)
 
 -- the row failed, and it was the last
 pub seeks_none : (p : Phase) (row : Row) (v : ℕ) (cs : List Clause) (debt : ℕ) → p ≡ Searching → length row ≡ v → false ≡ some_false row → Tried p row cs → false ≡ all_hold row cs → Seeks v cs debt Unsatisfiable none

@@ -1,104 +1,49 @@
-// Rows of values in counting order, and clauses as they lie in memory.
-// A clause there is a head, which tells the number of its literals, and then the literals.
-ghost use Rattle.std.specs.Prelude.{◌≡◌, ◌+◌, ◌≤◌, true, false, ◌∷◌, ◌++◌, length, take, replicate, vec_len};
-ghost use Rattle.clause.specs.Logic.{all_hold, all_inside, clause_holds, literal_holds, outside, some_outside, value};
-ghost use Rattle.clause.specs.Memory.{clauses_of, encode, head};
+// Rows of values in counting order, and clauses put into memory.
+// Values and words are pushed one by one where there is room, since `resize` and `extend_from_slice` may ask for memory, and no call of an engine does.
+ghost use Rattle.std.specs.Prelude.{◌≡◌, ◌+◌, ◌≤◌, false, ◌∷◌, ◌++◌, length, replicate, vec_len, vec_capacity};
+ghost use Rattle.clause.specs.Memory.{head};
 ghost use Rattle.counting.specs.Rows.{next, some_false};
 
 use clause::literal::Literal;
 
-/// The value of a variable in a row.
-pub(crate) fn value_at(row: &[bool], variable: usize) -> bool
-    requires { outside (length row.now) variable ≡ false }
-    ensures { result ≡ value row.now variable }
+/// Adds so many values to a row, all false.
+pub(crate) fn widen(row: &mut Vec<bool>, more: usize)
+    requires { vec_len row.old + more ≤ vec_capacity row.old }
+    ensures items { row.new.items ≡ row.old.items ++ replicate more false }
+    ensures len { vec_len row.new ≡ vec_len row.old + more }
+    ensures capacity { vec_capacity row.new ≡ vec_capacity row.old }
 {
-    row[variable - 1]
-}
-
-/// Whether a literal holds.
-fn literal_holds(row: &[bool], literal: Literal) -> bool
-    requires { outside (length row.now) literal.variable ≡ false }
-    ensures { result ≡ literal_holds row.now literal }
-{
-    value_at(row, literal.variable) != literal.negated
-}
-
-/// Whether at least one literal of the clause holds.
-fn clause_holds(row: &[bool], clause: &[Literal]) -> bool
-    requires { some_outside (length row.now) clause.now ≡ false }
-    ensures { result ≡ clause_holds row.now clause.now }
-{
-    for literal in clause {
-        if literal_holds(row, *literal) {
-            return true;
-        }
+    for _ in 0..more {
+        row.push_reserved(false);
     }
-    false
 }
 
-/// Whether every clause in these words holds.
-pub(crate) fn all_hold(row: &[bool], words: &[Literal]) -> bool
-    requires coded { encode (clauses_of words.now) ≡ words.now }
-    requires inside { all_inside (length row.now) (clauses_of words.now) ≡ true }
-    ensures { result ≡ all_hold row.now (clauses_of words.now) }
+/// Puts a clause last: its head, and then its literals.
+pub(crate) fn store(words: &mut Vec<Literal>, clause: &[Literal])
+    requires { vec_len words.old + (length clause.now + 1) ≤ vec_capacity words.old }
+    ensures items { words.new.items ≡ words.old.items ++ head (length clause.now) ∷ clause.now }
+    ensures len { vec_len words.new ≡ vec_len words.old + (length clause.now + 1) }
+    ensures capacity { vec_capacity words.new ≡ vec_capacity words.old }
 {
-    let mut at = 0;
-    while at < words.len() {
-        let from = at + 1;
-        let to = from + words[at].variable;
-        if !clause_holds(row, &words[from..to]) {
-            return false;
-        }
-        at = to;
-    }
-    true
-}
-
-/// Puts a clause into memory after the first `used` words.
-pub(crate) fn store(words: &mut Vec<Literal>, used: usize, clause: &[Literal])
-    requires { used + (length clause.now + 1) ≤ vec_len words.old }
-    ensures after { take (used + (length clause.now + 1)) words.new.items ≡ take used words.old.items ++ head (length clause.now) ∷ clause.now }
-    ensures len { vec_len words.new ≡ vec_len words.old }
-{
-    let size = clause.len();
-    let from = used + 1;
-    words[used] = Literal {
-        variable: size,
+    words.push_reserved(Literal {
+        variable: clause.len(),
         negated: false,
-    };
-    words[from..from + size].copy_from_slice(clause);
-}
-
-/// Makes the first n values the first row: all false.
-pub(crate) fn first_row(values: &mut Vec<bool>, n: usize)
-    requires { n ≤ vec_len values.old }
-    ensures after { take n values.new.items ≡ replicate n false }
-    ensures len { vec_len values.new ≡ vec_len values.old }
-{
-    values[0..n].fill(false);
-}
-
-/// Moves the first n values on to the next row; tells whether there is one.
-pub(crate) fn next_row(values: &mut Vec<bool>, n: usize) -> bool
-    requires { n ≤ vec_len values.old }
-    ensures answer { result ≡ some_false (take n values.old.items) }
-    ensures after { take n values.new.items ≡ next (take n values.old.items) }
-    ensures len { vec_len values.new ≡ vec_len values.old }
-{
-    count_up(&mut values[0..n])
+    });
+    for literal in clause {
+        words.push_reserved(*literal);
+    }
 }
 
 /// Moves a row on to the next, and the last on to the first; tells whether it was not the last.
-fn count_up(row: &mut [bool]) -> bool
+pub(crate) fn count_up(row: &mut [bool]) -> bool
     ensures answer { result ≡ some_false row.old }
     ensures after { row.new ≡ next row.old }
 {
-    for i in 0..row.len() {
-        if !row[i] {
-            row[i] = true;
+    for value in row.iter_mut() {
+        *value = !*value;
+        if *value {
             return true;
         }
-        row[i] = false;
     }
     false
 }

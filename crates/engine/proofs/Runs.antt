@@ -1,5 +1,5 @@
 -- Many steps one after another: what they keep, that they lower the debt, and that the answer is right.
-use Rattle.std.proofs.Common.{◌≡◌, ℕ, zero, suc, ◌+◌, ◌*◌, ◌^◌, ◌<◌, ◌≤◌, true, false, ◌⊎◌, List, None, sym, refl, ap, ◌∙◌, subst, inl, inr, add-one, arith, pow_pos}
+use Rattle.std.proofs.Common.{◌≡◌, ℕ, zero, suc, ◌+◌, ◌*◌, ◌^◌, ◌<◌, ◌≤◌, true, false, List, None, refl, ap, ◌∙◌, subst, add-one, arith, pow_pos}
 use borrow.Author.Tests.{both_ways}
 use native.Mathlib.Nat.{pow-succ'}
 use Rattle.clause.specs.Logic.{Clause, Solves}
@@ -55,9 +55,6 @@ went (suc k) e e' m =
           omega (arith, w.debt h, q.3, left);
     }
 
-pub one_more : (k : ℕ) (e m e' : View) → Mores k e m → StepsTo m More e' → Mores (k + 1) e e'
-one_more k e m e' w s = subst (λ n. Mores n e e') (sym (add-one k)) (m, w, s)
-
 -- from idle there is always a step to make
 pub idle_owes : (e : View) → e.state ≡ idle → (owed e ≡ allowance e.variables) × (1 ≤ owed e)
 idle_owes e i =
@@ -96,8 +93,8 @@ right_owes v w cs Model s n r = ap (owed_in w) r.1
 right_owes v w cs Unsatisfiable s n r = ap (owed_in w) r.0
 
 -- a search that spent its budget
-pub spent : (k budget : ℕ) (e e' : View) → k ≡ budget → Mores k e e' → Searched e budget More k e'
-spent k budget e e' b m =
+pub spent : (k : ℕ) (e e' : View) → Mores k e e' → Searched e k More k e'
+spent k e e' m =
     let w = went k e e' m in
     record {
       variables = w.variables;
@@ -105,7 +102,7 @@ spent k budget e e' b m =
       places = w.places;
       count = w.count;
       within = omega arith;
-      whole = λ _. b;
+      whole = λ _. refl;
       steps = m;
       right = w.unanswered;
       debt = λ h _. w.debt h;
@@ -115,9 +112,13 @@ spent k budget e e' b m =
     }
 
 -- a search that answered
-pub found : (k budget : ℕ) (e : View) (a : Answer) (m e' : View) → k < budget → Mores k e m → StepsTo m a e' → (a ≡ More → ⊥) → Steps (k + 1) e a e'
-    → Searched e budget a (k + 1) e'
-found k budget e a m e' b w s n all =
+ends_steps : (k : ℕ) (e : View) (a : Answer) (e' : View) → (a ≡ More → ⊥) → Ends k e a e' → Steps k e a e'
+ends_steps k e More e' n r = absurd (n refl)
+ends_steps k e Model e' n r = r
+ends_steps k e Unsatisfiable e' n r = r
+
+pub found : (k budget : ℕ) (e : View) (a : Answer) (m e' : View) → k < budget → Mores k e m → StepsTo m a e' → (a ≡ More → ⊥) → Searched e budget a (k + 1) e'
+found k budget e a m e' b w s n =
     let r : Ends (k + 1) e a e' = record { before = k; last = refl; at = m; mores = w; step = s } in
     let before = went k e m w in
     let total : (has_answered e.state ≡ false) → 1 ≤ owed e → k + 1 + owed e' ≤ owed e =
@@ -131,24 +132,13 @@ found k budget e a m e' b w s n all =
       count = omega (arith, s.count, before.count);
       within = omega arith;
       whole = λ e. absurd (n e);
-      steps = all;
+      steps = ends_steps (k + 1) e a e' n r;
       right = ends_right (k + 1) e a e' r;
       debt = total;
       ends = λ h o small more. n more;
       idle_bound = λ i. let own = idle_owes e i in omega (arith, total (ap has_answered i) own.1, own.0);
       idle_ends = λ i small more. n more;
     }
-
-pub found_answer : (k budget : ℕ) (e : View) (a : Answer) (m e' : View) → k < budget → Mores k e m → StepsTo m a e' → (a ≡ Model) ⊎ (a ≡ Unsatisfiable)
-    → Searched e budget a (k + 1) e'
-found_answer k budget e a m e' b w s (inl i) =
-    subst (λ x. Searched e budget x (k + 1) e') (sym i)
-    (let t = subst (λ x. StepsTo m x e') i s in
-    found k budget e Model m e' b w t (λ x. let z : ◌≡◌ {A = ℕ} 0 1 = cc in omega arith) (record { before = k; last = refl; at = m; mores = w; step = t }))
-found_answer k budget e a m e' b w s (inr i) =
-    subst (λ x. Searched e budget x (k + 1) e') (sym i)
-    (let t = subst (λ x. StepsTo m x e') i s in
-    found k budget e Unsatisfiable m e' b w t (λ x. let z : ◌≡◌ {A = ℕ} 0 1 = cc in omega arith) (record { before = k; last = refl; at = m; mores = w; step = t }))
 
 -- within the budget no step is refused
 pub admitted : (k budget : ℕ) (e m : View) → k < budget → e.count + budget ≤ step_limit → Mores k e m → step_refusal m ≡ None

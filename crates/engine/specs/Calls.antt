@@ -6,6 +6,7 @@ use Rattle.refusal.specs.declared.refusal.Refusal.TheVariants.{VariableRange, Pl
 use Rattle.clause.specs.Logic.{Row, Clause, Solves, Unsolvable, words, value, outside, some_outside}
 use Rattle.engine.specs.declared.types.Answer.{Answer}
 use Rattle.engine.specs.declared.types.Answer.TheVariants.{More, Model, Unsatisfiable}
+use Rattle.engine.specs.declared.types.Places.{Places}
 use Rattle.engine.specs.View.{View, State, allowance, owed, idle_with, is_searching, has_model, row_in}
 use Rattle.engine.specs.View.State.{idle, searching, model, none}
 
@@ -13,32 +14,49 @@ use Rattle.engine.specs.View.State.{idle, searching, model, none}
 abbrev pub refuse_if : Bool → Refusal → Option Refusal → Option Refusal
 refuse_if test x rest = cond test (Some x) rest
 
+-- a test that refuses exactly so
+abbrev pub Tested : {U : Type 0} → Option Refusal → Result U Refusal → Type 0
+Tested refusal (Ok u) = refusal ≡ None
+Tested refusal (Err x) = refusal ≡ Some x
+
 abbrev pub Cleared : View → View → Type 0
 Cleared e e' = e' ≡ idle_with e 0 []
 
+-- for an engine that searches or not, with so many variables
+abbrev pub growth_refusal : Bool → Places → ℕ → ℕ → Option Refusal
+growth_refusal searches places variables k =
+    refuse_if searches Searching
+    (refuse_if (nat_lt places.variables (variables + k)) PlacesLacking None)
+
 abbrev pub grow_refusal : View → ℕ → Option Refusal
-grow_refusal e k =
-    refuse_if (is_searching e.state) Searching
-    (refuse_if (nat_lt e.places.variables (e.variables + k)) PlacesLacking None)
+grow_refusal e k = growth_refusal (is_searching e.state) e.places e.variables k
 
 abbrev pub Grown : {U : Type 0} → View → ℕ → Result U Refusal → View → Type 0
 Grown e k (Ok u) e' = (grow_refusal e k ≡ None) × (e' ≡ idle_with e (e.variables + k) e.clauses)
 Grown e k (Err x) e' = (grow_refusal e k ≡ Some x) × (e' ≡ e)
 
+-- for an engine that searches or not, with so many variables, and clauses that take so many words
+abbrev pub addition_refusal : Bool → Places → ℕ → ℕ → Clause → Option Refusal
+addition_refusal searches places variables used c =
+    refuse_if searches Searching
+    (refuse_if (some_outside variables c) VariableRange
+    (refuse_if (nat_lt places.words (used + (length c + 1))) PlacesLacking None))
+
 abbrev pub add_refusal : View → Clause → Option Refusal
-add_refusal e c =
-    refuse_if (is_searching e.state) Searching
-    (refuse_if (some_outside e.variables c) VariableRange
-    (refuse_if (nat_lt e.places.words (words e.clauses + (length c + 1))) PlacesLacking None))
+add_refusal e c = addition_refusal (is_searching e.state) e.places e.variables (words e.clauses) c
 
 abbrev pub Added : {U : Type 0} → View → Clause → Result U Refusal → View → Type 0
 Added e c (Ok u) e' = (add_refusal e c ≡ None) × (e' ≡ idle_with e e.variables (e.clauses ++ (c ∷ [])))
 Added e c (Err x) e' = (add_refusal e c ≡ Some x) × (e' ≡ e)
 
+-- for an engine at a model or not, with so many variables
+abbrev pub question_refusal : Bool → ℕ → ℕ → Option Refusal
+question_refusal models variables x =
+    refuse_if (outside variables x) VariableRange
+    (refuse_if (not models) NoModel None)
+
 abbrev pub value_refusal : View → ℕ → Option Refusal
-value_refusal e x =
-    refuse_if (outside e.variables x) VariableRange
-    (refuse_if (not (has_model e.state)) NoModel None)
+value_refusal e x = question_refusal (has_model e.state) e.variables x
 
 abbrev pub Valued : View → ℕ → Result Bool Refusal → Type 0
 Valued e x (Ok b) = (value_refusal e x ≡ None) × (b ≡ value (row_in e.state) x)
@@ -47,8 +65,12 @@ Valued e x (Err y) = value_refusal e x ≡ Some y
 abbrev pub step_limit : ℕ
 step_limit = 1000000000000
 
+-- after so many steps
+abbrev pub count_refusal : ℕ → Option Refusal
+count_refusal count = refuse_if (nat_lt step_limit (count + 1)) StepsSpent None
+
 abbrev pub step_refusal : View → Option Refusal
-step_refusal e = refuse_if (nat_lt step_limit (e.count + 1)) StepsSpent None
+step_refusal e = count_refusal e.count
 
 -- A step of an engine that has not answered, and that owes at most `debt` steps, this one included.
 abbrev pub Seeks : ℕ → List Clause → ℕ → Answer → State → Type 0

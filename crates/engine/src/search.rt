@@ -16,14 +16,11 @@ pub fn run<E: Engine>(engine: &mut E, budget: u64) -> Result<(Answer, u64), Refu
     if engine.count().saturating_add(budget) > STEP_LIMIT {
         return Err(Refusal::StepsSpent);
     }
-    let mut made = 0;
-    while made < budget {
-        let answer = engine.step()?;
-        made += 1;
-        match answer {
+    for made in 0..budget {
+        match engine.step()? {
             Answer::More => {}
-            Answer::Model | Answer::Unsatisfiable => return Ok((answer, made)),
+            answer => return Ok((answer, made + 1)),
         }
     }
-    Ok((Answer::More, made))
+    Ok((Answer::More, budget))
 }

@@ -9,8 +9,8 @@ use refusal::refusal::Refusal;
 use std::process::Abort;
 use std::test::Fail;
 
-/// A clause of at most three literals, as in DIMACS: a number for a variable, its negative for the negation, 0 for no literal.
-type Clause = [i8; 3];
+/// A clause as in DIMACS: a number for a variable, its negative for the negation.
+type Clause<'a> = &'a [i8];
 
 fn literal(number: i8) -> Literal {
     Literal {
@@ -19,123 +19,114 @@ fn literal(number: i8) -> Literal {
     }
 }
 
-/// Adds the clause's literals up to the first 0.
-fn add<E: Engine>(engine: &mut E, clause: &Clause) -> Result<(), Refusal> {
-    let [a, b, c] = *clause;
-    if a == 0 {
-        engine.add(&[])
-    } else if b == 0 {
-        engine.add(&[literal(a)])
-    } else if c == 0 {
-        engine.add(&[literal(a), literal(b)])
-    } else {
-        engine.add(&[literal(a), literal(b), literal(c)])
-    }
-}
-
 /// Whether the engine's values make the clause hold.
-fn holds<E: Engine>(engine: &E, clause: &Clause) -> Result<bool, Refusal> {
+fn holds<E: Engine>(engine: &E, clause: Clause<'_>) -> Result<bool, Refusal> {
     for number in clause {
-        if *number != 0 && engine.value(number.unsigned_abs() as usize)? == (*number > 0) {
+        let literal = literal(*number);
+        if engine.value(literal.variable)? != literal.negated {
             return Ok(true);
         }
     }
     Ok(false)
 }
 
-/// Whether a search over the clauses comes to a model, whose values are then tried, within `budget` steps.
-fn satisfiable<E: Engine>(
+/// What a search over the clauses comes to within `budget` steps; a model's values are tried at each clause.
+fn outcome<E: Engine, R: Abort + AllocGlobal>(
+    rt: &R,
     engine: &mut E,
     variables: usize,
-    clauses: &[Clause],
+    clauses: &[Clause<'_>],
     budget: u64,
-) -> Result<Option<bool>, Refusal> {
+) -> Result<Answer, Fail> {
     engine.clear();
     engine.grow(variables)?;
     for clause in clauses {
-        add(engine, clause)?;
+        let literals: Vec<Literal> = clause
+            .iter()
+            .map(|number| literal(*number))
+            .collect(rt.alloc())?;
+        engine.add(&literals)?;
     }
-    match run(engine, budget)?.0 {
-        Answer::More => Ok(None),
-        Answer::Unsatisfiable => Ok(Some(false)),
-        Answer::Model => {
-            for clause in clauses {
-                if !holds(engine, clause)? {
-                    return Ok(None);
-                }
-            }
-            Ok(Some(true))
+    let (answer, _) = run(engine, budget)?;
+    if answer == Answer::Model {
+        for clause in clauses {
+            assert!(rt; holds(engine, clause)?, "the model's values");
         }
     }
+    Ok(answer)
 }
 
 /// Three pigeons do not fit into two holes: variable 2p + h - 2 says that pigeon p sits in hole h.
-const PIGEONS: [Clause; 9] = [
-    [1, 2, 0],
-    [3, 4, 0],
-    [5, 6, 0],
-    [-1, -3, 0],
-    [-1, -5, 0],
-    [-3, -5, 0],
-    [-2, -4, 0],
-    [-2, -6, 0],
-    [-4, -6, 0],
+const PIGEONS: [Clause<'static>; 9] = [
+    &[1, 2],
+    &[3, 4],
+    &[5, 6],
+    &[-1, -3],
+    &[-1, -5],
+    &[-3, -5],
+    &[-2, -4],
+    &[-2, -6],
+    &[-4, -6],
 ];
 
 /// Exactly one row makes these hold: 1 true, 2 false, 3 true.
-const ONE_ROW: [Clause; 5] = [[1, 0, 0], [-1, -2, 0], [2, 3, 0], [1, 2, -3], [-3, -2, 1]];
+const ONE_ROW: [Clause<'static>; 5] = [&[1], &[-1, -2], &[2, 3], &[1, 2, -3], &[-3, -2, 1]];
 
 /// Every sign of three variables: no row makes all hold.
-const ALL_SIGNS: [Clause; 8] = [
-    [1, 2, 3],
-    [1, 2, -3],
-    [1, -2, 3],
-    [1, -2, -3],
-    [-1, 2, 3],
-    [-1, 2, -3],
-    [-1, -2, 3],
-    [-1, -2, -3],
+const ALL_SIGNS: [Clause<'static>; 8] = [
+    &[1, 2, 3],
+    &[1, 2, -3],
+    &[1, -2, 3],
+    &[1, -2, -3],
+    &[-1, 2, 3],
+    &[-1, 2, -3],
+    &[-1, -2, 3],
+    &[-1, -2, -3],
 ];
 
 /// The same answers from any engine, one formula after another.
-fn known_answers<E: Engine>(rt: &impl Abort, engine: &mut E) -> Result<(), Fail> {
-    assert_eq!(rt; satisfiable(engine, 0, &[], 1)?, Some(true), "no clause");
+fn known_answers<E: Engine, R: Abort + AllocGlobal>(rt: &R, engine: &mut E) -> Result<(), Fail> {
+    assert_eq!(rt; outcome(rt, engine, 0, &[], 1)?, Answer::Model, "no clause");
     assert_eq!(rt;
-        satisfiable(engine, 3, &[], 15)?,
-        Some(true),
+        outcome(rt, engine, 3, &[], 15)?,
+        Answer::Model,
         "no clause over three variables"
     );
     assert_eq!(rt;
-        satisfiable(engine, 2, &[[0, 0, 0]], 7)?,
-        Some(false),
+        outcome(rt, engine, 2, &[&[]], 7)?,
+        Answer::Unsatisfiable,
         "the empty clause"
     );
     assert_eq!(rt;
-        satisfiable(engine, 1, &[[1, -1, 0]], 3)?,
-        Some(true),
+        outcome(rt, engine, 1, &[&[1, -1]], 3)?,
+        Answer::Model,
         "a clause that always holds"
     );
     assert_eq!(rt;
-        satisfiable(engine, 1, &[[1, 1, 0], [-1, 0, 0]], 3)?,
-        Some(false),
+        outcome(rt, engine, 1, &[&[1, 1], &[-1]], 3)?,
+        Answer::Unsatisfiable,
         "a literal twice"
     );
     assert_eq!(rt;
-        satisfiable(engine, 6, &PIGEONS, 127)?,
-        Some(false),
+        outcome(rt, engine, 6, &PIGEONS, 127)?,
+        Answer::Unsatisfiable,
         "three pigeons"
     );
     assert_eq!(rt;
-        satisfiable(engine, 3, &ONE_ROW, 15)?,
-        Some(true),
+        outcome(rt, engine, 3, &ONE_ROW, 15)?,
+        Answer::Model,
         "one row"
     );
     assert_eq!(rt;
-        satisfiable(engine, 3, &ALL_SIGNS, 15)?,
-        Some(false),
+        outcome(rt, engine, 3, &ALL_SIGNS, 15)?,
+        Answer::Unsatisfiable,
         "all signs"
     );
-    assert_eq!(rt; satisfiable(engine, 3, &ALL_SIGNS, 0)?, None, "no budget");
+    assert_eq!(rt;
+        outcome(rt, engine, 3, &ALL_SIGNS, 0)?,
+        Answer::More,
+        "no budget"
+    );
     Ok(())
 }
 

@@ -8,21 +8,9 @@ use refusal::refusal::Refusal;
 use std::process::Abort;
 use std::test::Fail;
 
-/// The refusal's number; 0 where the call was taken.
-fn number<T: Drop>(answer: Result<T, Refusal>) -> u32 {
-    match answer {
-        Ok(_) => 0,
-        Err(refusal) => refusal.number(),
-    }
-}
-
-/// 0 for more, 1 for a model, 2 for none.
-fn told(answer: Answer) -> u8 {
-    match answer {
-        Answer::More => 0,
-        Answer::Model => 1,
-        Answer::Unsatisfiable => 2,
-    }
+/// The answer, or the number of the refusal.
+fn numbered<T>(answer: Result<T, Refusal>) -> Result<T, u32> {
+    answer.map_err(|refusal| refusal.number())
 }
 
 /// An engine with places for two variables and for five words, in every state.
@@ -35,57 +23,61 @@ fn refused<E: Engine>(rt: &impl Abort, engine: &mut E) -> Result<(), Fail> {
         variable: 2,
         negated: false,
     };
-    assert_eq!(rt; number(engine.grow(3)), 24, "three variables on two places");
-    assert_eq!(rt; number(engine.grow(2)), 0);
+    let no_such = Literal {
+        variable: 0,
+        negated: true,
+    };
+    let past_the_last = Literal {
+        variable: 3,
+        negated: true,
+    };
     assert_eq!(rt;
-        number(engine.add(&[
-            a,
-            Literal {
-                variable: 3,
-                negated: true
-            }
-        ])),
-        15,
+        numbered(engine.grow(3)),
+        Err(24),
+        "three variables on two places"
+    );
+    assert_eq!(rt; numbered(engine.grow(2)), Ok(()));
+    assert_eq!(rt;
+        numbered(engine.add(&[a, past_the_last])),
+        Err(15),
         "variable 3"
     );
+    assert_eq!(rt; numbered(engine.add(&[no_such])), Err(15), "variable 0");
     assert_eq!(rt;
-        number(engine.add(&[Literal {
-            variable: 0,
-            negated: true
-        }])),
-        15,
-        "variable 0"
-    );
-    assert_eq!(rt;
-        number(engine.add(&[a, b, a, b, a])),
-        24,
+        numbered(engine.add(&[a, b, a, b, a])),
+        Err(24),
         "six words on five places"
     );
-    assert_eq!(rt; number(engine.add(&[a, b])), 0);
-    assert_eq!(rt; number(engine.value(1)), 27, "no model yet");
-    assert_eq!(rt; told(engine.step()?), 0, "a first step");
-    assert_eq!(rt; number(engine.grow(9)), 26, "grown while searching");
+    assert_eq!(rt; numbered(engine.add(&[a, b])), Ok(()));
+    assert_eq!(rt; numbered(engine.value(1)), Err(27), "no model yet");
+    assert_eq!(rt; engine.step()?, Answer::More, "a first step");
+    assert_eq!(rt; numbered(engine.grow(9)), Err(26), "grown while searching");
     assert_eq!(rt;
-        number(engine.add(&[Literal {
-            variable: 0,
-            negated: true
-        }])),
-        26,
+        numbered(engine.add(&[no_such])),
+        Err(26),
         "added while searching"
     );
     for _ in 0..6 {
         let _ = engine.step()?;
     }
-    assert_eq!(rt; told(engine.step()?), 1, "the answer again");
+    assert_eq!(rt; engine.step()?, Answer::Model, "the answer again");
     assert_eq!(rt; engine.count(), 8, "every step counts");
-    assert_eq!(rt; number(engine.value(3)), 15);
-    assert_eq!(rt; number(engine.value(2)), 0);
-    assert_eq!(rt; number(engine.add(&[a])), 0, "idle after an answer");
-    assert_eq!(rt; number(engine.value(1)), 27, "the model is forgotten");
+    assert_eq!(rt; numbered(engine.value(3)), Err(15));
+    assert!(rt; engine.value(2).is_ok());
+    assert_eq!(rt; numbered(engine.add(&[a])), Ok(()), "idle after an answer");
+    assert_eq!(rt;
+        numbered(engine.value(1)),
+        Err(27),
+        "the model is forgotten"
+    );
     engine.clear();
-    assert_eq!(rt; number(engine.add(&[a])), 15, "no variable after clear");
-    assert_eq!(rt; number(engine.add(&[])), 0, "the empty clause");
-    assert_eq!(rt; told(engine.step()?), 2);
+    assert_eq!(rt;
+        numbered(engine.add(&[a])),
+        Err(15),
+        "no variable after clear"
+    );
+    assert_eq!(rt; numbered(engine.add(&[])), Ok(()), "the empty clause");
+    assert_eq!(rt; engine.step()?, Answer::Unsatisfiable);
     Ok(())
 }
 

@@ -2,31 +2,18 @@
 #![tactic(auto)]
 
 use circuit::circuit::Circuit;
-use circuit::gate::{Gate, Inputs, Kind};
+use circuit::gate::{Gate, Kind};
 use circuit::pair::Pair;
-use layout::row::fault_row;
 use refusal::fault::Fault;
 use sheet::length::pair_length;
 use sheet::read::load_pair;
 use sheet::write::write_pair;
 use std::io;
-use std::io::{Read, Write};
-
-/// One row more than the longest pair has.
-const LONGEST: u64 = 13_920;
+use streams::{read_bytes, write_fault};
 
 /// `1 gate`, `2 gates`.
 fn plural(count: usize) -> &'static str {
     if count == 1 { "" } else { "s" }
-}
-
-fn print_inputs(rt: &HostRuntime, inputs: Inputs) -> io::Result<()> {
-    match inputs {
-        Inputs::One(a) => print!(rt; "{a}"),
-        Inputs::Two(a, b) => print!(rt; "{a} {b}"),
-        Inputs::Three(a, b, c) => print!(rt; "{a} {b} {c}"),
-        Inputs::Four(a, b, c, d) => print!(rt; "{a} {b} {c} {d}"),
-    }
 }
 
 /// A line for each kind of gate that the circuit has.
@@ -34,8 +21,7 @@ fn print_kinds(rt: &HostRuntime, circuit: &Circuit) -> io::Result<()> {
     for kind in Kind::ALL {
         let count = circuit.gates_of(kind);
         if count > 0 {
-            let name = kind.name();
-            println!(rt; "  {name}: {count}")?;
+            println!(rt; "  {kind}: {count}")?;
         }
     }
     Ok(())
@@ -49,9 +35,7 @@ fn print_tables(rt: &HostRuntime, circuit: &Circuit) -> io::Result<()> {
                 .saturating_add(i)
                 .saturating_add(1);
             let first = circuit.first_row(i);
-            print!(rt; "  table on net {net}: inputs ")?;
-            print_inputs(rt, *inputs)?;
-            println!(rt; ", first setting row {first}")?;
+            println!(rt; "  table on net {net}: inputs {inputs}, first setting row {first}")?;
         }
     }
     Ok(())
@@ -105,13 +89,12 @@ fn print_pair(rt: &HostRuntime, pair: &Pair, bytes: &[u8]) -> io::Result<()> {
 
 /// The fault as a row F with its number, sheet, row and column, and in words on standard error.
 fn print_fault(rt: &HostRuntime, fault: &Fault) -> io::Result<()> {
-    rt.stdout().write_all(&fault_row(fault))?;
+    write_fault(&mut rt.stdout(), fault)?;
     eprintln!(rt; "{fault}")
 }
 
 fn main(rt: HostRuntime) -> io::Result<()> {
-    let mut bytes = Vec::new(rt.alloc());
-    rt.stdin().take(LONGEST).read_to_end(&mut bytes)?;
+    let bytes = read_bytes(rt.alloc(), rt.stdin())?;
     match load_pair(rt.alloc(), bytes.as_slice()) {
         Ok(pair) => print_pair(&rt, &pair, bytes.as_slice()),
         Err(fault) => print_fault(&rt, &fault),

@@ -2,3 +2,4 @@ pub mod Masks
 pub mod Runs
 pub mod Compare
 pub mod Trailing
+pub mod Left

@@ -1,7 +1,6 @@
 -- Bit i of the input word 64 * block + j: below 6 it is bit i of j, which the six masks list, and from 6 on it is bit i - 6 of the block.
-use Rattle.std.proofs.Common.{◌≡◌, ℕ, zero, suc, ◌+◌, ◌-◌, ◌*◌, ◌/◌, ◌%◌, ◌^◌, ◌<◌, ◌≤◌, Bool, true, false, not, ◌&&◌, eqb, List, [], ◌∷◌, get_or, Decides, sym, refl, ap, ◌∙◌, arith}
-use lib.Pow.{mod-mod-pow}
-use Rattle.std.proofs.lemmas.Nat.{field_of, shr-shr}
+use Rattle.std.proofs.Common.{◌≡◌, ℕ, zero, suc, ◌+◌, ◌-◌, ◌*◌, ◌^◌, ◌<◌, ◌≤◌, Bool, true, false, not, ◌&&◌, eqb, List, [], ◌∷◌, get_or, Decides, sym, refl, ap, ◌∙◌, arith}
+use Rattle.std.proofs.lemmas.Nat.Bits.{bit_at_cat_low, bit_at_cat_high}
 use Rattle.std.proofs.lemmas.Bool.{false≢true}
 use Rattle.std.proofs.lemmas.Bool.Decides.{Decides-below_and}
 use Rattle.circuit.specs.Kinds.{xor}
@@ -38,20 +37,12 @@ masks_count =
     let lane = λ (i : ℕ). every_below (right i) 64 in
     (Decides-below_and lane (λ i. (j : ℕ) → j < 64 → bit (get_or masks i 0) j ≡ bit j i) (every_below lane) decides_right refl (λ _. refl) 6).0 refl
 
-low_part : (n d i : ℕ) → (d + 1) + i ≡ 6 → n % 64 / 2 ^ i % 2 ≡ n / 2 ^ i % 2
-low_part n d i e =
-    let part : n % 2 ^ 6 / 2 ^ i ≡ n / 2 ^ i % 2 ^ (d + 1) = rw e at (field_of n (d + 1) i) in
-    ap (λ x. x % 2) part ∙ mod-mod-pow (n / 2 ^ i) d 1
-
 pub low_input : (block j i : ℕ) → j < 64 → i < 6 → bit (lane_word block j) i ≡ bit j i
 low_input block j i small low =
-    let lane : (64 * block + j) % 64 ≡ j = omega arith in
-    let part = low_part (64 * block + j) (5 - i) i (omega arith) in
-    ap (λ x. eqb x 1) (sym part ∙ ap (λ n. n / 2 ^ i % 2) lane)
+    let place : 64 * block + j ≡ block * 2 ^ 6 + j = omega arith in
+    ap (λ n. bit n i) place ∙ ap (λ x. eqb x 1) (bit_at_cat_low block 6 j i low)
 
 pub high_input : (block j i : ℕ) → j < 64 → 6 ≤ i → bit (lane_word block j) i ≡ bit block (i - 6)
 high_input block j i small high =
-    let own : (64 * block + j) / 2 ^ 6 ≡ block = omega arith in
-    let place : 6 + (i - 6) ≡ i = omega arith in
-    let part : (64 * block + j) / 2 ^ 6 / 2 ^ (i - 6) ≡ (64 * block + j) / 2 ^ i = rw place at (shr-shr (64 * block + j) 6 (i - 6)) in
-    ap (λ n. eqb (n % 2) 1) (sym part ∙ ap (λ n. n / 2 ^ (i - 6)) own)
+    let place : 64 * block + j ≡ block * 2 ^ 6 + j = omega arith in
+    ap (λ n. bit n i) place ∙ ap (λ x. eqb x 1) (bit_at_cat_high block 6 j i small high)

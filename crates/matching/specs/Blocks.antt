@@ -1,5 +1,5 @@
 -- Blocks of 64 input words, one to a lane.
-use Rattle.std.specs.Prelude.{◌≡◌, ℕ, ◌+◌, ◌-◌, ◌*◌, ◌<◌, ◌≤◌, Bool, not, List, length, Decides, Option, slice_index_or}
+use Rattle.std.specs.Prelude.{◌≡◌, ℕ, ◌+◌, ◌-◌, ◌*◌, ◌<◌, ◌≤◌, Bool, not, List, Decides, Option, slice_index_or}
 use Rattle.std.specs.Option as options
 use Rattle.circuit.specs.Gates.{Sheet}
 use Rattle.meaning.specs.Nets.{at}
@@ -13,10 +13,6 @@ lane_word block j = 64 * block + j
 
 abbrev pub no_lanes : Word
 no_lanes = record { bits = 0 }
-
--- lane j of the values holds the bits of the number w j, the lowest first
-abbrev pub HoldLanes : List Word → (ℕ → ℕ) → Type 0
-HoldLanes xs w = (i j : ℕ) (d : Word) → i < length xs → j < 64 → bit (slice_index_or xs i d).bits j ≡ bit (w j) i
 
 -- each lane of the values holds the circuit's net values at the lane's input word
 abbrev pub HoldNets : Sheet → ℕ → ℕ → List Word → Type 0

@@ -1,3 +1,4 @@
 pub mod Answers
 pub mod Blocks
 pub mod Samples
+pub mod Differing

@@ -2,6 +2,8 @@
 #![tactic(auto)]
 
 mod bits;
+mod comparison;
+pub mod differing;
 mod lanes;
 pub mod laws;
 pub mod matching;

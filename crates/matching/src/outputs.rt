@@ -5,7 +5,7 @@ ghost use Rattle.circuit.specs.View.{drawn};
 ghost use Rattle.matching.specs.Answers.{Numbered, as_number};
 ghost use Rattle.matching.specs.Blocks.{net_bit};
 
-use crate::bits::{bit_of, fits};
+use crate::bits::{bit_of, check};
 use crate::lanes::{net_lanes, run};
 use circuit::circuit::Circuit;
 use refusal::refusal::Refusal;
@@ -19,8 +19,8 @@ fn gather(outputs: &[u8], nets: &[Word], j: u64) -> u64
     ensures { result ≡ as_number (map (net_bit nets.now j) outputs.now) }
 {
     let mut number = 0;
-    for i in (0..outputs.len()).rev() {
-        number = 2 * number + u64::from(bit_of(net_lanes(nets, outputs[i]), j));
+    for (i, a) in outputs.iter().enumerate() {
+        number += u64::from(bit_of(net_lanes(nets, *a), j)) << i;
     }
     number
 }
@@ -30,13 +30,8 @@ fn gather(outputs: &[u8], nets: &[Word], j: u64) -> u64
 pub fn outputs(circuit: &Circuit, setting: u64, word: u64) -> Result<u64, Refusal>
     ensures { Numbered (drawn circuit.now) setting word result }
 {
-    if !fits(word, circuit.inputs as usize) {
-        return Err(Refusal::WordRange);
-    }
-    if !fits(setting, circuit.rows()) {
-        return Err(Refusal::SettingRange);
-    }
-    let mut nets = [Word { bits: 0 }; 216];
-    run(circuit, setting, word / 64, &mut nets);
+    check(word, usize::from(circuit.inputs), Refusal::WordRange)?;
+    check(setting, circuit.rows(), Refusal::SettingRange)?;
+    let nets = run(circuit, setting, word / 64);
     Ok(gather(circuit.outputs.as_slice(), &nets, word % 64))
 }

@@ -3,7 +3,6 @@
 use Rattle.std.proofs.Common.{◌≡◌, ℕ, zero, suc, ◌+◌, ◌%◌, ◌<◌, ◌≤◌, true, eqb, ltb, List, [], ◌∷◌, ◌++◌, length, get_or, take, None, Option, sym, refl, ap, ◌∙◌, arith, length-append}
 use Rattle.std.proofs.lemmas.List.{get_or-take, length-take-le, take_all}
 use Rattle.std.proofs.lemmas.List.FromFn.{fill_by_all}
-use Rattle.std.proofs.lemmas.List.Sums.{sum_by_more, sum_by-take-le}
 use Rattle.std.proofs.lemmas.Bool.{eq-eqb, le-leb, lt-ltb, and_from}
 use Rattle.refusal.specs.declared.refusal.Refusal.TheVariants.{Length, RowCount}
 use Rattle.refusal.specs.declared.fault.Fault.{Fault}
@@ -27,7 +26,9 @@ pub use Rattle.sheet_format.proofs.CompleteRows.{length_rows}
 
 -- the rows of a gate and of those before it are among all rows
 rows_within : (gs : List Gate) (i : ℕ) → i < length gs → total_rows (take i gs) + own_rows (gate_at gs i) ≤ total_rows gs
-rows_within gs i h = omega (arith, sum_by_more own_rows gs i (Unary Buffer 1) h, sum_by-take-le own_rows gs (i + 1))
+rows_within [] i h = let no : ⊥ = omega arith in elim no [ ]
+rows_within (g ∷ gs) zero h = omega arith
+rows_within (g ∷ gs) (suc i) h = omega (arith, rows_within gs i (omega arith))
 
 -- a gate with no rows of its own is no table
 plain_stands : (g : Gate) → own_rows g ≡ 0 → may_stand Specification (kind_of g) ≡ true

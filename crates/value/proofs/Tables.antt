@@ -1,33 +1,16 @@
 -- Over bits, the or over a table's rows is the row that the inputs pick: every other row's and has an input turned to 0.
-use Rattle.std.proofs.Common.{◌≡◌, ℕ, zero, suc, ◌+◌, ◌*◌, ◌/◌, ◌%◌, ◌^◌, ◌<◌, ◌≤◌, Bool, true, false, cond, not, ◌&&◌, ◌||◌, eqb, ◌⊎◌, List, [], ◌∷◌, length, sym, refl, ap, ◌∙◌, inl, inr, pow-suc, arith}
+use Rattle.std.proofs.Common.{◌≡◌, ℕ, zero, suc, ◌+◌, ◌*◌, ◌/◌, ◌%◌, ◌^◌, ◌<◌, ◌≤◌, Bool, true, false, cond, not, ◌&&◌, ◌||◌, eqb, List, [], ◌∷◌, length, sym, refl, ap, ◌∙◌, inl, inr, pow-suc, arith}
 use native.Mathlib.Nat.{pow-succ'}
+use Rattle.std.proofs.Math.Bool.{and-true, and-false, or-false, and_assoc}
 use Rattle.std.proofs.lemmas.Bool.{cases_eq, eq-eqb, ne_eqb}
 use Rattle.circuit.specs.Kinds.{xor, row_number}
 use Rattle.value.specs.Ops.{Ops}
 use Rattle.value.specs.Values.{taken, and_inputs, or_below, table_value}
+use Rattle.value.specs.Words.{digit}
 
 -- the bits themselves as a kind
 abbrev pub bools : Ops Bool
 bools = record { falsity = false; truth = true; inverse = not; both = ◌&&◌; either = ◌||◌; differ = xor }
-
-and_true : (a : Bool) → (a && true) ≡ a
-and_true true = refl
-and_true false = refl
-
-and_false : (a : Bool) → (a && false) ≡ false
-and_false true = refl
-and_false false = refl
-
-or_false : (a : Bool) → (a || false) ≡ a
-or_false true = refl
-or_false false = refl
-
-and_assoc : (a b c : Bool) → ((a && b) && c) ≡ (a && (b && c))
-and_assoc true b c = refl
-and_assoc false b c = refl
-
-digit : (n : ℕ) → (n % 2 ≡ 0) ⊎ (n % 2 ≡ 1)
-digit n = grind arith
 
 -- row r is the one that the inputs pick just where its lowest bit is the first input's and the rest is that of the others
 pick : (v : Bool) (r m : ℕ) → eqb r (cond v 1 0 + 2 * m) ≡ (cond (eqb (r % 2) 0) (not v) v && eqb (r / 2) m)
@@ -48,7 +31,7 @@ pick false r m = elim (digit r) [
 
 -- a row's and is its bit at the row that the inputs pick, and false at any other
 picked : (b : Bool) (r : ℕ) (ins : List Bool) → r < 2 ^ length ins → and_inputs bools b r ins ≡ (b && eqb r (row_number ins))
-picked b r [] h = let z : r ≡ 0 = omega arith in sym (ap (λ x. b && x) (eq-eqb r 0 z) ∙ and_true b)
+picked b r [] h = let z : r ≡ 0 = omega arith in sym (ap (λ x. b && x) (eq-eqb r 0 z) ∙ and-true b)
 picked b r (v ∷ ins) h =
     let rest = row_number ins in
     let small : r / 2 < 2 ^ length ins = omega (arith, pow-suc 2 (length ins)) in
@@ -69,7 +52,7 @@ none_picked f g m (suc n) h l =
     let before = none_picked f g m n (λ r k. h r (omega arith)) (omega arith) in
     let here = h n (omega arith) in
     let other : eqb n m ≡ false = ne_eqb n m (λ e. omega arith) in
-    ap (λ x. x || g n) before ∙ here ∙ ap (λ x. f n && x) other ∙ and_false (f n)
+    ap (λ x. x || g n) before ∙ here ∙ ap (λ x. f n && x) other ∙ and-false (f n)
 
 one_picked : (f g : ℕ → Bool) (m n : ℕ) → ((r : ℕ) → r < n → g r ≡ (f r && eqb r m)) → m < n → or_below bools g n ≡ f m
 one_picked f g m zero h l = absurd (omega arith)
@@ -78,11 +61,11 @@ one_picked f g m (suc n) h l =
     elim (cases_eq n m) [
       | inl e ↦
           let before = none_picked f g m n (λ r k. h r (omega arith)) (omega arith) in
-          ap (λ x. x || g n) before ∙ here ∙ ap (λ x. f n && x) (eq-eqb n m e) ∙ and_true (f n) ∙ ap f e
+          ap (λ x. x || g n) before ∙ here ∙ ap (λ x. f n && x) (eq-eqb n m e) ∙ and-true (f n) ∙ ap f e
       | inr ne ↦
           let k : m < n = omega (arith, ne) in
           let before = one_picked f g m n (λ r k. h r (omega arith)) k in
-          ap (λ x. x || g n) before ∙ ap (λ x. f m || x) (here ∙ ap (λ x. f n && x) (ne_eqb n m ne) ∙ and_false (f n)) ∙ or_false (f m)
+          ap (λ x. x || g n) before ∙ ap (λ x. f m || x) (here ∙ ap (λ x. f n && x) (ne_eqb n m ne) ∙ and-false (f n)) ∙ or-false (f m)
     ]
 
 -- a table of bits gives the bit of the row that its inputs pick

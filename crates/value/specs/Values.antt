@@ -49,6 +49,10 @@ kind_value ops (kinds.TheVariants.Unary u) rows ins = unary_value ops u (slice_i
 kind_value ops (kinds.TheVariants.Binary o) rows ins = binary_value ops o (slice_index_or ins 0 ops.falsity) (slice_index_or ins 1 ops.falsity)
 kind_value ops kinds.TheVariants.Table rows ins = table_value ops rows ins
 
+-- row r of a list of rows
+abbrev pub row_of : {K : Type 0} → Ops K → List K → ℕ → K
+row_of ops rows r = slice_index_or rows r ops.falsity
+
 -- the setting rows from `first` on
 abbrev pub rows_from : {K : Type 0} → Ops K → List K → ℕ → ℕ → K
 rows_from ops rows first r = slice_index_or rows (first + r) ops.falsity

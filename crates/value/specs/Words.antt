@@ -1,12 +1,9 @@
 -- The bits of an and, an or and an exclusive or of two numbers are those of their bits; so the word of 64 lanes keeps the
 -- laws of lanes, as the single bit does.
-use Rattle.std.specs.Prelude.{◌≡◌, ℕ, ◌+◌, ◌-◌, ◌*◌, ◌/◌, ◌%◌, ◌^◌, ◌<◌, min, max, Bool, true, false, not, ◌&&◌, ◌||◌, ◌⊎◌, ◌==◌, nat_eq, refl}
-use Rattle.std.proofs.Common.{sym, ap, ◌∙◌, inl, inr, arith, pow-add, pow_pos}
-use Prim.Native.Nat.{differ}
-use Rattle.std.proofs.Math.Nat.{zero-div}
-use Rattle.std.proofs.Math.Pow.{ones_split, high, ones_lt}
-use Rattle.std.specs.Int.Bits.{bit_and, bit_or, bit_xor, and_step, or_step, xor_step}
-use Rattle.std.proofs.lemmas.Nat.{and_shr, or_shr, xor_shr}
+use Rattle.std.specs.Prelude.{◌≡◌, ℕ, ◌+◌, ◌-◌, ◌/◌, ◌%◌, ◌^◌, ◌<◌, min, max, Bool, true, false, not, ◌&&◌, ◌||◌, ◌⊎◌, ◌==◌, refl}
+use Rattle.std.proofs.Common.{sym, ap, ◌∙◌, inl, inr, arith}
+use Rattle.std.specs.Int.Bits.{bit_and, bit_or, bit_xor}
+use Rattle.std.proofs.lemmas.Nat.Bits.{bit_at_and, bit_at_or, bit_at_xor, bit_at_ones, bit_at-zero}
 use Rattle.circuit.specs.Kinds.{xor}
 use Rattle.meaning.specs.Meaning.{bit}
 use Rattle.value.specs.Lanes.{LaneLaws, Completes, Known}
@@ -17,59 +14,30 @@ xor_true true = refl
 xor_true false = refl
 
 -- a digit is 0 or 1
-digit : (n : ℕ) → (n % 2 ≡ 0) ⊎ (n % 2 ≡ 1)
+pub digit : (n : ℕ) → (n % 2 ≡ 0) ⊎ (n % 2 ≡ 1)
 digit n = grind arith
 
-low_and : (p q : ℕ) → (bit_and p q % 2 == 1) ≡ (p % 2 == 1 && q % 2 == 1)
-low_and p q =
-    let e : bit_and p q % 2 ≡ min (p % 2) (q % 2) = omega (arith, and_step p q) in
-    elim (digit p) [
-      | inl x ↦ elim (digit q) [ inl y ↦ rw (e, x, y) | inr y ↦ rw (e, x, y) ]
-      | inr x ↦ elim (digit q) [ inl y ↦ rw (e, x, y) | inr y ↦ rw (e, x, y) ]
-    ]
-
-low_or : (p q : ℕ) → (bit_or p q % 2 == 1) ≡ (p % 2 == 1 || q % 2 == 1)
-low_or p q =
-    let e : bit_or p q % 2 ≡ max (p % 2) (q % 2) = omega (arith, or_step p q) in
-    elim (digit p) [
-      | inl x ↦ elim (digit q) [ inl y ↦ rw (e, x, y) | inr y ↦ rw (e, x, y) ]
-      | inr x ↦ elim (digit q) [ inl y ↦ rw (e, x, y) | inr y ↦ rw (e, x, y) ]
-    ]
-
-differ_small : (x y : ℕ) → (x ≡ 0) ⊎ (x ≡ 1) → (y ≡ 0) ⊎ (y ≡ 1) → differ x y < 2
-differ_small x y (inl p) (inl q) = rw (p, q) (omega arith)
-differ_small x y (inl p) (inr q) = rw (p, q) (omega arith)
-differ_small x y (inr p) (inl q) = rw (p, q) (omega arith)
-differ_small x y (inr p) (inr q) = rw (p, q) (omega arith)
-
-low_xor : (p q : ℕ) → (bit_xor p q % 2 == 1) ≡ xor (p % 2 == 1) (q % 2 == 1)
-low_xor p q =
-    let e : bit_xor p q % 2 ≡ differ (p % 2) (q % 2) = omega (arith, xor_step p q, differ_small (p % 2) (q % 2) (digit p) (digit q)) in
-    elim (digit p) [
-      | inl x ↦ elim (digit q) [ inl y ↦ rw (e, x, y) | inr y ↦ rw (e, x, y) ]
-      | inr x ↦ elim (digit q) [ inl y ↦ rw (e, x, y) | inr y ↦ rw (e, x, y) ]
+two_digits : (P : ℕ → ℕ → Type 0) → P 0 0 → P 0 1 → P 1 0 → P 1 1 → (m n : ℕ) → P (m % 2) (n % 2)
+two_digits P p q r s m n =
+    elim (digit m) [
+      | inl x ↦ elim (digit n) [ inl y ↦ rw (x, y) p | inr y ↦ rw (x, y) q ]
+      | inr x ↦ elim (digit n) [ inl y ↦ rw (x, y) r | inr y ↦ rw (x, y) s ]
     ]
 
 pub bit_of_and : (a b j : ℕ) → bit (bit_and a b) j ≡ (bit a j && bit b j)
-bit_of_and a b j = rw and_shr (low_and (a / 2 ^ j) (b / 2 ^ j))
+bit_of_and a b j = rw bit_at_and (two_digits (λ x y. (min x y == 1) ≡ (x == 1 && y == 1)) refl refl refl refl (a / 2 ^ j) (b / 2 ^ j))
 
 pub bit_of_or : (a b j : ℕ) → bit (bit_or a b) j ≡ (bit a j || bit b j)
-bit_of_or a b j = rw or_shr (low_or (a / 2 ^ j) (b / 2 ^ j))
+bit_of_or a b j = rw bit_at_or (two_digits (λ x y. (max x y == 1) ≡ (x == 1 || y == 1)) refl refl refl refl (a / 2 ^ j) (b / 2 ^ j))
 
 pub bit_of_xor : (a b j : ℕ) → bit (bit_xor a b) j ≡ xor (bit a j) (bit b j)
-bit_of_xor a b j = rw xor_shr (low_xor (a / 2 ^ j) (b / 2 ^ j))
+bit_of_xor a b j = rw bit_at_xor (two_digits (λ x y. ((x + y) % 2 == 1) ≡ xor (x == 1) (y == 1)) refl refl refl refl (a / 2 ^ j) (b / 2 ^ j))
 
 pub bit_ones : (j : ℕ) → j < 64 → bit (2 ^ 64 - 1) j ≡ true
-bit_ones j h =
-    let i : ℕ = 63 - j in
-    let whole : (i + 1) + j ≡ 64 = omega arith in
-    let split : 2 ^ 64 - 1 ≡ (2 ^ (i + 1) - 1) * 2 ^ j + (2 ^ j - 1) = rw whole at (ones_split (i + 1) j) in
-    let part : (2 ^ 64 - 1) / 2 ^ j ≡ 2 ^ (i + 1) - 1 = ap (λ n. n / 2 ^ j) split ∙ high (2 ^ (i + 1) - 1) j (ones_lt j) in
-    let odd : (2 ^ 64 - 1) / 2 ^ j % 2 ≡ 1 = omega (arith, part, pow-add 2 i 1, pow_pos i) in
-    ap (λ n. nat_eq n 1) odd
+bit_ones j h = ap (λ n. n == 1) (bit_at_ones 64 j h)
 
 pub bit_zero : (j : ℕ) → bit 0 j ≡ false
-bit_zero j = rw zero-div
+bit_zero j = ap (λ n. n == 1) (bit_at-zero j)
 
 -- a bit is a lane that is known, and the only way that it may turn out
 known_known : (a : Bool) → Known (known a)

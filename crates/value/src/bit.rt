@@ -1,13 +1,22 @@
 // The single bit.
-ghost use Rattle.value.specs.Kinds.{bit_ops, bit_lane};
+ghost use Rattle.std.specs.Prelude.{◌≡◌};
+ghost use Rattle.value.specs.Kinds.{the_bit, bit_ops, bit_lane};
 ghost use Rattle.value.specs.Words.{bit_laws};
 
 use crate::kind::{Algebra, Lanes};
 
 /// A single bit.
-#[derive(Clone, Copy, Debug)]
+#[derive(Clone, Copy, PartialEq, Eq, Debug)]
 pub struct Bit {
     pub value: bool,
+}
+
+impl From<bool> for Bit {
+    ghost from_gives = { λ value bit. bit ≡ the_bit value };
+
+    fn from(value: bool) -> Bit {
+        Bit { value }
+    }
 }
 
 impl Algebra for Bit {

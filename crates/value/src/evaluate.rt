@@ -1,10 +1,10 @@
 // Evaluation of a circuit, written once for every kind of value.
 ghost use Rattle.std.specs.Prelude.{◌≡◌, ℕ, ◌+◌, ◌^◌, ◌≤◌, true, ◌++◌, map, length, take, drop, is_ok};
-ghost use Rattle.circuit.specs.Gates.{nets as net_list, named, own_rows, total_rows, Below};
+ghost use Rattle.circuit.specs.Gates.{nets as net_list, named, own_rows, total_rows, kind_of, Below};
 ghost use Rattle.circuit.specs.View.{drawn};
 ghost use Rattle.meaning.specs.Nets.{at, nets_from};
 ghost use Rattle.value.specs.Lanes.{LaneLaws};
-ghost use Rattle.value.specs.Values.{Within, unary_value, binary_value, taken, and_inputs, table_value, rows_from, gate_value, NetsHold};
+ghost use Rattle.value.specs.Values.{Within, unary_value, binary_value, taken, and_inputs, table_value, kind_value, row_of, gate_value, NetsHold};
 ghost use Rattle.value.specs.Outcome.{Evaluated, LanesRight};
 ghost use Rattle.value.specs.declared.ternary.Ternary.{Ternary};
 
@@ -52,55 +52,55 @@ fn taken<K: Algebra>(bit: usize, x: K) -> K
     if bit == 0 { x.inverse() } else { x }
 }
 
-/// The and of a row's value and each input net's, inverted where the row number's bit is 0.
-fn and_inputs<K: Algebra + Copy>(nets: &[K], row: K, mut number: usize, inputs: &[u8]) -> K
-    requires { Within (length nets.now) inputs.now }
-    ensures { result ≡ and_inputs K.Algebra.ops row number (map (at K.Algebra.ops.falsity nets.now) inputs.now) }
+/// The and of a row's value and each input's, inverted where the row number's bit is 0.
+fn and_inputs<K: Algebra + Copy>(row: K, mut number: usize, inputs: &[K]) -> K
+    ensures { result ≡ and_inputs K.Algebra.ops row number inputs.now }
 {
     let mut value = row;
-    for a in inputs {
-        value = value.both(taken(number % 2, at(nets, *a)));
+    for x in inputs {
+        value = value.both(taken(number % 2, *x));
         number /= 2;
     }
     value
 }
 
-/// The or over the rows of a table of these input nets; its rows are those from `first` on.
-fn or_rows<K: Algebra + Copy>(rows: &[K], first: usize, nets: &[K], inputs: &[u8]) -> K
-    requires within { Within (length nets.now) inputs.now }
-    requires few { length inputs.now ≤ 4 }
-    requires rows { first + 2 ^ length inputs.now ≤ length rows.now }
-    ensures { result ≡ table_value K.Algebra.ops (rows_from K.Algebra.ops rows.now first) (map (at K.Algebra.ops.falsity nets.now) inputs.now) }
+/// The value of a table, from its rows and its inputs' values: the or of what the rows make of the inputs.
+fn or_rows<K: Algebra + Copy>(rows: &[K], inputs: &[K]) -> K
+    requires { length rows.now ≡ 2 ^ length inputs.now }
+    ensures { result ≡ table_value K.Algebra.ops (row_of K.Algebra.ops rows.now) inputs.now }
 {
     let mut value = K::falsity();
-    for number in 0..1usize << inputs.len() {
-        value = value.either(and_inputs(nets, rows[first + number], number, inputs));
+    for (number, row) in rows.iter().enumerate() {
+        value = value.either(and_inputs(*row, number, inputs));
     }
     value
 }
 
-/// The value of a table.
-fn of_table<K: Algebra + Copy>(rows: &[K], first: usize, nets: &[K], inputs: Inputs) -> K
-    requires { (Within (length nets.now) (named inputs)) × (first + 2 ^ length (named inputs) ≤ length rows.now) }
-    ensures { result ≡ gate_value K.Algebra.ops rows.now first (at K.Algebra.ops.falsity nets.now) (Gate.Table inputs) }
+/// The value of a table, from its rows and the nets.
+fn of_table<K: Algebra + Copy>(rows: &[K], nets: &[K], inputs: Inputs) -> K
+    requires { (Within (length nets.now) (named inputs)) × (length rows.now ≡ own_rows (Gate.Table inputs)) }
+    ensures { result ≡ table_value K.Algebra.ops (row_of K.Algebra.ops rows.now) (map (at K.Algebra.ops.falsity nets.now) (named inputs)) }
 {
     match inputs {
-        Inputs::One(a) => or_rows(rows, first, nets, &[a]),
-        Inputs::Two(a, b) => or_rows(rows, first, nets, &[a, b]),
-        Inputs::Three(a, b, c) => or_rows(rows, first, nets, &[a, b, c]),
-        Inputs::Four(a, b, c, d) => or_rows(rows, first, nets, &[a, b, c, d]),
+        Inputs::One(a) => or_rows(rows, &[at(nets, a)]),
+        Inputs::Two(a, b) => or_rows(rows, &[at(nets, a), at(nets, b)]),
+        Inputs::Three(a, b, c) => or_rows(rows, &[at(nets, a), at(nets, b), at(nets, c)]),
+        Inputs::Four(a, b, c, d) => or_rows(
+            rows,
+            &[at(nets, a), at(nets, b), at(nets, c), at(nets, d)],
+        ),
     }
 }
 
-/// A gate's value, where `first` is the first setting row of its own.
-fn gate_value<K: Algebra + Copy>(rows: &[K], first: usize, nets: &[K], gate: Gate) -> K
-    requires { (Within (length nets.now) (net_list gate)) × (first + own_rows gate ≤ length rows.now) }
-    ensures { result ≡ gate_value K.Algebra.ops rows.now first (at K.Algebra.ops.falsity nets.now) gate }
+/// A gate's value, from the setting rows of its own and the nets.
+fn gate_value<K: Algebra + Copy>(rows: &[K], nets: &[K], gate: &Gate) -> K
+    requires { (Within (length nets.now) (net_list gate.now)) × (length rows.now ≡ own_rows gate.now) }
+    ensures { result ≡ kind_value K.Algebra.ops (kind_of gate.now) (row_of K.Algebra.ops rows.now) (map (at K.Algebra.ops.falsity nets.now) (net_list gate.now)) }
 {
-    match gate {
+    match *gate {
         Gate::Unary(unary, a) => of_one(unary, at(nets, a)),
         Gate::Binary(binary, a, b) => of_two(binary, at(nets, a), at(nets, b)),
-        Gate::Table(inputs) => of_table(rows, first, nets, inputs),
+        Gate::Table(inputs) => of_table(rows, nets, inputs),
     }
 }
 
@@ -109,15 +109,13 @@ fn put_gates<K: Algebra + Copy>(rows: &[K], n: usize, gates: &[Gate], nets: &mut
     requires below { Below n gates.now }
     requires rows { total_rows gates.now ≡ length rows.now }
     requires room { n + length gates.now ≤ length nets.old }
-    requires few { length rows.now ≤ 64 }
     ensures { nets.new ≡ nets_from (gate_value K.Algebra.ops rows.now) K.Algebra.ops.falsity 0 (take n nets.old) gates.now ++ drop (n + length gates.now) nets.old }
 {
-    let mut first = 0;
-    for i in 0..gates.len() {
-        let gate = gates[i];
-        let value = gate_value(rows, first, &nets[0..n + i], gate);
-        nets[n + i] = value;
-        first += gate.rows();
+    let mut left = rows;
+    for (i, gate) in gates.iter().enumerate() {
+        let (own, others) = left.split_at(gate.rows());
+        nets[n + i] = gate_value(own, &nets[..n + i], gate);
+        left = others;
     }
 }
 

@@ -5,7 +5,9 @@ ghost use Rattle.value.specs.Sharpness.{ternary_laws};
 use crate::kind::{Algebra, Lanes};
 
 /// 0, 1 or not known.
-#[derive(Clone, Copy, Debug)]
+// `Option<bool>` holds as much but is no plainer: `(One, y) => y` below would be `(Some(true), y) => y`, and so in each law of lanes,
+// and `None` would not say what is missing.
+#[derive(Clone, Copy, PartialEq, Eq, Debug)]
 pub enum Ternary {
     Zero,
     One,

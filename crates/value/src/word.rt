@@ -1,15 +1,32 @@
 // The word of 64 lanes.
+ghost use Rattle.std.specs.Prelude.{◌≡◌, ℕ, ◌<◌};
+ghost use Rattle.meaning.specs.Meaning.{bit};
 ghost use Rattle.value.specs.Kinds.{word_ops, word_lane};
 ghost use Rattle.value.specs.Words.{word_laws};
 
 use crate::kind::{Algebra, Lanes};
 
 /// Sixty-four lanes, each a bit.
-#[derive(Clone, Copy, Debug)]
+#[derive(Clone, Copy, PartialEq, Eq, Debug)]
 pub struct Word {
     pub bits: u64,
 }
 
+/// The same bit in every lane.
+impl From<bool> for Word {
+    ghost from_gives = { λ value word. (j : ℕ) → j < 64 → bit word.bits j ≡ value };
+
+    fn from(value: bool) -> Word {
+        if value {
+            Word::truth()
+        } else {
+            Word::falsity()
+        }
+    }
+}
+
+// One impl for this and `Bit` would be no plainer: it would stand on a trait of `bool` and `u64` with false, true, not, and, or,
+// exclusive or and their laws, which is `Algebra` again.
 impl Algebra for Word {
     ghost ops = { word_ops };
 

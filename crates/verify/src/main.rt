@@ -6,18 +6,14 @@ ghost use Rattle.verify.specs.Count.{Counted};
 
 use anyhow::anyhow;
 use circuit::pair::Pair;
-use layout::row::fault_row;
-use matching::matching::next_difference;
+use matching::differing::differences;
 use matching::outputs::outputs;
 use refusal::fault::Fault;
 use refusal::refusal::Refusal;
 use sheet::read::load_pair;
-use std::io::{Read, Write};
 use std::process::ExitCode;
 use std::{env, io};
-
-/// One row more than the longest pair has.
-const LONGEST: u64 = 13_920;
+use streams::{read_bytes, write_fault};
 
 /// How many differing words are shown.
 const SHOWN: usize = 16;
@@ -32,23 +28,16 @@ fn argument(rt: &HostRuntime) -> anyhow::Result<u64> {
     if args.next().is_some() {
         return Err(anyhow!("verify: one argument is wanted: verify SETTING < pair"));
     }
-    match text.as_str().parse::<u64>() {
-        Ok(setting) => Ok(setting),
-        Err(_) => Err(anyhow!("verify: the setting is no number below 2^64")),
-    }
+    text.as_str()
+        .parse::<u64>()
+        .map_err(|_| anyhow!("verify: the setting is no number below 2^64"))
 }
 
 /// How many input words give outputs that differ.
-fn count(pair: &Pair, setting: u64) -> Result<u64, Refusal>
+fn count(pair: &Pair, setting: u64) -> Result<usize, Refusal>
     ensures { Counted (drawn pair.now.target) (drawn pair.now.specification) setting result }
 {
-    let mut total = 0;
-    let mut from = 0;
-    while let Some(word) = next_difference(pair, setting, from)? {
-        total += 1;
-        from = word + 1;
-    }
-    Ok(total)
+    Ok(differences(pair, setting)?.count())
 }
 
 /// What the target gives at the word, and what the specification wants.
@@ -64,18 +53,15 @@ fn print_word(rt: &HostRuntime, pair: &Pair, setting: u64, word: u64) -> io::Res
 
 /// A line for each of the first differing words, in rising order.
 fn print_words(rt: &HostRuntime, pair: &Pair, setting: u64) -> io::Result<()> {
-    let mut from = 0;
-    for _ in 0..SHOWN {
-        let Ok(Some(word)) = next_difference(pair, setting, from) else {
-            break;
-        };
-        print_word(rt, pair, setting, word)?;
-        from = word + 1;
+    if let Ok(words) = differences(pair, setting) {
+        for word in words.take(SHOWN) {
+            print_word(rt, pair, setting, word)?;
+        }
     }
     Ok(())
 }
 
-fn print_verdict(rt: &HostRuntime, pair: &Pair, setting: u64, differing: u64) -> io::Result<()> {
+fn print_verdict(rt: &HostRuntime, pair: &Pair, setting: u64, differing: usize) -> io::Result<()> {
     let words = 1u64 << pair.target.inputs;
     if differing == 0 {
         return println!(rt; "setting {setting} matches at all {words} input words");
@@ -86,20 +72,19 @@ fn print_verdict(rt: &HostRuntime, pair: &Pair, setting: u64, differing: u64) ->
 
 /// A refusal as a row F, and in words on standard error.
 fn print_fault(rt: &HostRuntime, fault: &Fault) -> io::Result<()> {
-    rt.stdout().write_all(&fault_row(fault))?;
+    write_fault(&mut rt.stdout(), fault)?;
     eprintln!(rt; "{fault}")
 }
 
 fn verify(rt: &HostRuntime, setting: u64) -> io::Result<()> {
-    let mut bytes = Vec::new(rt.alloc());
-    rt.stdin().take(LONGEST).read_to_end(&mut bytes)?;
+    let bytes = read_bytes(rt.alloc(), rt.stdin())?;
     let pair = match load_pair(rt.alloc(), bytes.as_slice()) {
         Ok(pair) => pair,
         Err(fault) => return print_fault(rt, &fault),
     };
     match count(&pair, setting) {
         Ok(differing) => print_verdict(rt, &pair, setting, differing),
-        Err(refusal) => print_fault(rt, &Fault::at(refusal, 0)),
+        Err(refusal) => print_fault(rt, &Fault::from(refusal)),
     }
 }
 

@@ -1,19 +1,10 @@
-use Rattle.std.proofs.Common.{arith}
-use Rattle.counting.proofs.Order.{up_start, up_ends, up_more, up_all}
+use Rattle.std.proofs.Common.{◌≡◌, false, get_or, set, ap, ◌∙◌, arith, rules, tests}
+use Rattle.counting.proofs.Order.{up_ends}
 use Rattle.counting.proofs.rows.count_up.Goals as goal
 
-pub loop-i-init : goal.loop-i-init
-loop-i-init c = up_start c.args.row.now
-
-pub returns-then-not-row-i : goal.returns-then-not-row-i
-returns-then-not-row-i c =
-    let e = up_ends c.args.row.now c.loop-i.row c.loop-i.i (omega (arith, c.loop-i.auto.row)) c.if-not-row-i.true c.loop-i.invariant in
-    record { answer = e.0; after = e.1 }
-
-pub loop-i-preserved : goal.loop-i-preserved
-loop-i-preserved c = up_more c.args.row.now c.loop-i.row c.loop-i.i (omega (arith, c.loop-i.auto.row)) c.if-not-row-i.false c.loop-i.invariant
-
-pub returns : goal.returns
-returns c =
-    let e = up_all c.args.row.now c.loop-i.row c.loop-i.i (omega (arith, c.loop-i.auto.row, c.loop-i-test.false)) c.loop-i.invariant in
-    record { answer = e.0; after = e.1 }
+pub returns-then-value-clause-after : goal.returns-then-value-clause-after
+returns-then-value-clause-after c =
+    let row = c.loop-value.row in
+    let i = c.loop-value.value-index in
+    let low : get_or row i false ≡ false = search (rules, tests) in
+    ap (set row i) c.if-value.true ∙ (up_ends c.args.row.now row i (omega arith) low c.loop-value.invariant).1

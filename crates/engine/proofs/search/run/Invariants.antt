@@ -1,12 +1,8 @@
-use Rattle.std.proofs.Common.{◌+◌, ◌-◌, ◌≤◌}
+use Rattle.std.proofs.Common.{◌+◌, ◌≤◌}
 use Rattle.engine.specs.Calls.{step_limit}
 use Rattle.engine.specs.Search.{Mores}
 use Rattle.engine.proofs.search.run.Given as goal
 
 abbrev pub invariant-loop-made : goal.invariant-loop-made
 invariant-loop-made g l =
-    (l.made ≤ l.budget) × ((g.E.Engine.view l.initial.engine).count + l.budget ≤ step_limit)
-    × Mores l.made (g.E.Engine.view l.initial.engine) (g.E.Engine.view l.engine)
-
-abbrev pub decreases-loop-made : goal.decreases-loop-made
-decreases-loop-made g l = l.budget - l.made
+    ((g.E.Engine.view l.initial.engine).count + l.budget ≤ step_limit) × Mores l.made (g.E.Engine.view l.initial.engine) (g.E.Engine.view l.engine)

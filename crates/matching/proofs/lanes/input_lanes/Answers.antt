@@ -7,4 +7,4 @@ pub returns-then-i-lt6 : goal.returns-then-i-lt6
 returns-then-i-lt6 c j h = masks_count c.args.i c.if-i-lt6.true j h ∙ sym (low_input c.args.block j c.args.i h c.if-i-lt6.true)
 
 pub returns-else-i-lt6 : goal.returns-else-i-lt6
-returns-else-i-lt6 c j h = c.in_every_lane.ensures j h ∙ c.bit_of.ensures ∙ sym (high_input c.args.block j c.args.i h c.if-i-lt6.false)
+returns-else-i-lt6 c j h = c.from.ensures j h ∙ c.bit_of.ensures ∙ sym (high_input c.args.block j c.args.i h c.if-i-lt6.false)

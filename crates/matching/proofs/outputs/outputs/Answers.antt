@@ -1,11 +1,11 @@
 -- No test refused, and the word's own lane holds the outputs.
-use Rattle.std.proofs.Common.{◌≡◌, ◌+◌, ◌*◌, ◌/◌, ◌%◌, ◌^◌, ltb, map, sym, ap, ◌∙◌, arith}
+use Rattle.std.proofs.Common.{◌≡◌, ◌+◌, ◌*◌, ◌/◌, ◌%◌, map, ap, ◌∙◌, arith}
 use Rattle.std.proofs.lemmas.Bool.{cond-true}
 use Rattle.circuit.specs.View.{drawn}
 use Rattle.meaning.specs.Meaning.{outputs_at}
 use Rattle.matching.specs.Answers.{as_number}
 use Rattle.matching.specs.Blocks.{net_bit}
-use Rattle.matching.proofs.Compare.{outputs_held}
+use Rattle.matching.proofs.Compare.{outputs_held, in_range}
 use Rattle.matching.proofs.outputs.outputs.Goals as goal
 
 pub returns : goal.returns
@@ -14,10 +14,9 @@ returns c =
     let s = drawn circuit in
     let setting = c.args.setting in
     let word = c.args.word in
-    let nets = c.run.new.nets in
+    let nets = c.run-nets.result in
     let place : 64 * (word / 64) + word % 64 ≡ word = omega arith in
-    let within = sym (c.fits-2.ensures ∙ ap (λ m. ltb setting (2 ^ m)) c.rows.ensures) ∙ c.if-not-fits-2.false in
-    let shown = ap (map (net_bit nets (word % 64))) c.as_slice.ensures.value ∙ outputs_held s setting (word / 64) nets circuit.driven c.run.ensures (word % 64) (omega arith) ∙ ap (outputs_at s setting) place in (
-      cond-true _ _ _ (sym c.fits.ensures ∙ c.if-not-fits.false) ∙ cond-true _ _ _ within,
+    let shown = ap (map (net_bit nets (word % 64))) c.as_slice.ensures.value ∙ outputs_held s setting (word / 64) nets circuit.driven c.run-nets.ensures (word % 64) (omega arith) ∙ ap (outputs_at s setting) place in (
+      cond-true _ _ _ (in_range word _ _ c.from.ensures c.in_ok-check.ensures) ∙ cond-true _ _ _ (in_range setting _ _ c.rows.ensures c.in_ok-check-2.ensures),
       c.gather.ensures ∙ ap as_number shown,
     )

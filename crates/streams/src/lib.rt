@@ -1,0 +1,35 @@
+// What the programs read and write, over any reader and any writer: the bytes of a pair, and a fault's row.
+#![tactic(auto)]
+
+ghost use Rattle.std.specs.Prelude.{◌≡◌, ◌≤◌, take, OnOk, IfOk, IfSome, vec_len};
+ghost use Rattle.std.specs.Io.KnownBytes.{Appends};
+ghost use Rattle.layout.specs.Text.{fault_text};
+ghost use Rattle.streams.specs.Longest.{longest};
+
+use layout::row::fault_row;
+use refusal::fault::Fault;
+use std::alloc::Global;
+use std::io;
+use std::io::{Read, Write};
+
+/// One row more than the longest pair has.
+const LONGEST: u64 = 13_920;
+
+/// The bytes that the reader gives, up to one row more than the longest pair has: more bytes are never a pair.
+pub fn read_bytes<R: Read + Drop>(heap: Global, reader: R) -> io::Result<Vec<u8>>
+    ensures { IfOk result (λ v. IfSome (R.remaining reader) (λ bytes. v.items ≡ take longest bytes)) }
+{
+    let mut bytes = Vec::new(heap);
+    reader.take(LONGEST).read_to_end(&mut bytes)?;
+    Ok(bytes)
+}
+
+/// Writes the row of a fault: F with its number, sheet, row and column.
+pub fn write_fault<W: Write>(writer: &mut W, fault: &Fault) -> io::Result<()>
+    ensures { OnOk result (Appends (W.contents writer.old) (W.contents writer.new) (fault_text fault.now)) }
+{
+    writer.write_all(&fault_row(fault))
+}
+
+#[cfg(test)]
+mod tests;
