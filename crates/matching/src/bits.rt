@@ -17,7 +17,7 @@ fn fits(number: u64, bits: usize) -> bool
     requires { bits ≤ 64 }
     ensures { result ≡ nat_lt number (2 ^ bits) }
 {
-    if bits < 64 { number >> bits == 0 } else { true }
+    bits >= 64 || number >> bits == 0
 }
 
 /// Refuses a number of more than so many bits.

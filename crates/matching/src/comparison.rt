@@ -37,8 +37,8 @@ fn alike(pair: &Pair) -> bool
 /// A pair of circuits of as many inputs and outputs, and a setting of the target.
 #[derive(Drop)]
 pub(crate) struct Comparison<'a> {
-    pub(crate) pair: &'a Pair,
-    pub(crate) setting: u64,
+    pair: &'a Pair,
+    setting: u64,
     ghost like: { length (drawn pair.now.target).outputs ≡ length (drawn pair.now.specification).outputs },
 }
 
@@ -55,7 +55,7 @@ impl<'a> Comparison<'a> {
         Ok(Comparison { pair, setting })
     }
 
-    /// A setting of too many bits is refused too, after them.
+    /// Circuits of unlike numbers of inputs or outputs are refused, and then a setting of too many bits.
     pub(crate) fn checked(pair: &'a Pair, setting: u64) -> Result<Comparison<'a>, Refusal>
         ensures { let t = drawn pair.now.target in
             let s = drawn pair.now.specification in

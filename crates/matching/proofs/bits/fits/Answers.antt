@@ -5,8 +5,8 @@ use Rattle.std.proofs.lemmas.Bool.{cases_lt, eq-eqb, ne_eqb, lt-ltb, le-ltb}
 use Rattle.std.proofs.lemmas.Nat.{le-div, pow_pos}
 use Rattle.matching.proofs.bits.fits.Goals as goal
 
-pub returns-then-bits-lt64 : goal.returns-then-bits-lt64
-returns-then-bits-lt64 c =
+pub returns-else-bits-ge64 : goal.returns-else-bits-ge64
+returns-else-bits-ge64 c =
     let n = c.args.number in
     let p = 2 ^ c.args.bits in
     elim (cases_lt n p) [
