@@ -9,11 +9,6 @@ use Rattle.sheet_format.specs.Rows.{rows, header_text, gate_text, gate_texts, ou
 use Rattle.sheet_format.proofs.CompleteRows.{length_gate_texts, length_output_texts, length_rows}
 use Rattle.sheet.specs.Written.{laid, texts}
 
--- a part that was written over
-pub part_laid : (a k : ℕ) (xs ys row : List ℕ) → ys ≡ row → k ≡ length row → put_mid a k xs ys ≡ laid xs a row
-part_laid a k xs ys row e h =
-    ap (λ y. take a xs ++ (y ++ drop k (drop a xs))) e ∙ ap (λ r. take a xs ++ (row ++ r)) (drop-drop k a xs ∙ ap (λ n. drop (a + n) xs) h)
-
 -- a text laid right after another
 pub laid_more : (b : List ℕ) (at n : ℕ) (x y : List ℕ) → at + length x ≤ length b → n ≡ at + length x → laid (laid b at x) n y ≡ laid b at (x ++ y)
 laid_more b at n x y h e =

@@ -1,9 +1,8 @@
 // Circuits and pairs, written as their rows.
-ghost use Rattle.std.specs.Prelude.{◌≡◌, ℕ, ◌+◌, ◌*◌, ◌<◌, ◌≤◌, List, [], ◌∷◌, length};
+ghost use Rattle.std.specs.Prelude.{◌≡◌, ℕ, ◌+◌, ◌*◌, ◌<◌, ◌≤◌, List, length};
 ghost use Rattle.std.specs.Borrow.{Bor};
 ghost use Rattle.circuit.specs.View.{drawn};
-ghost use Rattle.layout.specs.Text.{row_text};
-ghost use Rattle.sheet_format.specs.Rows.{rows, pair_rows, header_text, gate_text, gate_texts, output_text, output_texts};
+ghost use Rattle.sheet_format.specs.Rows.{rows, pair_rows, gate_text, output_text};
 ghost use Rattle.sheet.specs.Written.{laid, texts, Written};
 
 use crate::length::{pair_length, sheet_length};

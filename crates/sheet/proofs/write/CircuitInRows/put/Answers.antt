@@ -1,10 +1,10 @@
-use Rattle.std.proofs.Common.{◌≡◌, ◌≤◌, ◌+◌, ◌-◌, ◌*◌, [], ◌∷◌, length, drop, refl, ap, ◌∙◌, arith}
+use Rattle.std.proofs.Common.{◌≤◌, ◌+◌, ◌-◌, ◌*◌, [], ◌∷◌, length, drop, refl, ap, ◌∙◌, arith}
 use borrow.Rule.Slice.PartMut.{put_mid}
 use Rattle.std.proofs.lemmas.List.{length-take, length-drop}
 use Rattle.circuit.specs.View.{drawn}
 use Rattle.layout.specs.Text.{row_text}
 use Rattle.sheet_format.specs.Rows.{gate_text, output_text}
-use Rattle.sheet.proofs.Laid.{parts_fit, part_long, laid_within, sheet_laid}
+use Rattle.sheet.proofs.Laid.{parts_fit, part_long, sheet_laid}
 use Rattle.sheet.proofs.write.CircuitInRows.put.Goals as goal
 
 pub put_row-requires : goal.put_row-requires
