@@ -4,7 +4,6 @@
 use circuit::circuit::Circuit;
 use circuit::gate::{Gate, Kind};
 use circuit::pair::Pair;
-use refusal::fault::Fault;
 use sheet::length::pair_length;
 use sheet::read::load_pair;
 use sheet::write::write_pair;
@@ -87,16 +86,10 @@ fn print_pair(rt: &HostRuntime, pair: &Pair, bytes: &[u8]) -> io::Result<()> {
     print_again(rt, pair, bytes)
 }
 
-/// The fault as a row F with its number, sheet, row and column, and in words on standard error.
-fn print_fault(rt: &HostRuntime, fault: &Fault) -> io::Result<()> {
-    write_fault(&mut rt.stdout(), fault)?;
-    eprintln!(rt; "{fault}")
-}
-
 fn main(rt: HostRuntime) -> io::Result<()> {
     let bytes = read_bytes(rt.alloc(), rt.stdin())?;
     match load_pair(rt.alloc(), bytes.as_slice()) {
         Ok(pair) => print_pair(&rt, &pair, bytes.as_slice()),
-        Err(fault) => print_fault(&rt, &fault),
+        Err(fault) => write_fault(&mut rt.stdout(), &mut rt.stderr(), &fault),
     }
 }

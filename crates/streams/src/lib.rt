@@ -1,8 +1,9 @@
 // What the programs read and write, over any reader and any writer: the bytes of a pair, and a fault's row.
 #![tactic(auto)]
 
-ghost use Rattle.std.specs.Prelude.{◌≡◌, ◌≤◌, take, OnOk, IfOk, IfSome, vec_len};
+ghost use Rattle.std.specs.Prelude.{◌≡◌, [], ◌∷◌, ◌++◌, ◌≤◌, take, OnOk, IfOk, IfSome, vec_len};
 ghost use Rattle.std.specs.Io.KnownBytes.{Appends};
+ghost use Rattle.refusal.specs.Faults.{fault_words};
 ghost use Rattle.layout.specs.Text.{fault_text};
 ghost use Rattle.streams.specs.Longest.{longest};
 
@@ -24,11 +25,17 @@ pub fn read_bytes<R: Read + Drop>(heap: Global, reader: R) -> io::Result<Vec<u8>
     Ok(bytes)
 }
 
-/// Writes the row of a fault: F with its number, sheet, row and column.
-pub fn write_fault<W: Write>(writer: &mut W, fault: &Fault) -> io::Result<()>
-    ensures { OnOk result (Appends (W.contents writer.old) (W.contents writer.new) (fault_text fault.now)) }
+/// Writes a fault: to one writer its row, F with its number, sheet, row and column, and to another a line of words.
+pub fn write_fault<O: Write, E: Write>(
+    output: &mut O,
+    errors: &mut E,
+    fault: &Fault,
+) -> io::Result<()>
+    ensures row { OnOk result (Appends (O.contents output.old) (O.contents output.new) (fault_text fault.now)) }
+    ensures words { OnOk result (Appends (E.contents errors.old) (E.contents errors.new) (fault_words fault.now ++ 10 ∷ [])) }
 {
-    writer.write_all(&fault_row(fault))
+    output.write_all(&fault_row(fault))?;
+    errors.writeln(*fault)
 }
 
 #[cfg(test)]

@@ -13,9 +13,12 @@ fn no_more_than_a_pair(rt: HostRuntime) -> Result<(), Fail> {
 }
 
 #[test]
-fn fault_as_a_row(rt: HostRuntime) -> Result<(), Fail> {
-    let mut bytes = Vec::new(rt.alloc());
-    write_fault(&mut bytes, &Fault::at(Refusal::FieldForm, 7).in_row(3))?;
-    assert!(rt; bytes.as_slice() == b"F    4    0    3    7          \n".as_slice());
+fn fault_as_a_row_and_in_words(rt: HostRuntime) -> Result<(), Fail> {
+    let mut row = Vec::new(rt.alloc());
+    let mut words = Vec::new(rt.alloc());
+    let fault = Fault::at(Refusal::FieldForm, 7).in_row(3);
+    write_fault(&mut row, &mut words, &fault)?;
+    assert!(rt; row.as_slice() == b"F    4    0    3    7          \n".as_slice());
+    assert!(rt; words.as_slice() == b"sheet, row 3, column 7: field not in form\n".as_slice());
     Ok(())
 }

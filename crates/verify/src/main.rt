@@ -8,7 +8,6 @@ use anyhow::anyhow;
 use circuit::pair::Pair;
 use matching::differing::differences;
 use matching::outputs::outputs;
-use refusal::fault::Fault;
 use refusal::refusal::Refusal;
 use sheet::read::load_pair;
 use std::process::ExitCode;
@@ -70,21 +69,15 @@ fn print_verdict(rt: &HostRuntime, pair: &Pair, setting: u64, differing: usize) 
     print_words(rt, pair, setting)
 }
 
-/// A refusal as a row F, and in words on standard error.
-fn print_fault(rt: &HostRuntime, fault: &Fault) -> io::Result<()> {
-    write_fault(&mut rt.stdout(), fault)?;
-    eprintln!(rt; "{fault}")
-}
-
 fn verify(rt: &HostRuntime, setting: u64) -> io::Result<()> {
     let bytes = read_bytes(rt.alloc(), rt.stdin())?;
     let pair = match load_pair(rt.alloc(), bytes.as_slice()) {
         Ok(pair) => pair,
-        Err(fault) => return print_fault(rt, &fault),
+        Err(fault) => return write_fault(&mut rt.stdout(), &mut rt.stderr(), &fault),
     };
     match count(&pair, setting) {
         Ok(differing) => print_verdict(rt, &pair, setting, differing),
-        Err(refusal) => print_fault(rt, &Fault::from(refusal)),
+        Err(refusal) => write_fault(&mut rt.stdout(), &mut rt.stderr(), &refusal.into()),
     }
 }
 
