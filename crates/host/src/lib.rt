@@ -1,4 +1,5 @@
 // The two calls of a C host, over a pair's bytes; `host_c` exports them.
+// Their answers are numbers and no enum, since C takes them: include/rectifier.h gives them names.
 #![tactic(auto)]
 
 ghost use Rattle.std.specs.Prelude.{◌≡◌, MatchResult};

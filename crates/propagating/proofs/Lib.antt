@@ -1,2 +1,4 @@
-pub mod Turning
-pub mod Holding
+pub mod Lent
+pub mod Considering
+pub mod Stepping
+pub mod Formula

@@ -4,5 +4,4 @@
 mod memory;
 pub mod progress;
 pub mod propagating;
-mod propagation;
 mod search;

@@ -1,38 +1,22 @@
-// The engine's memory, and what holds of it.
-ghost use Rattle.std.specs.Prelude.{◌≡◌, ◌≤◌, true, take, vec_len};
-ghost use Rattle.clause.specs.Logic.{all_inside, words as size};
-ghost use Rattle.clause.specs.Memory.{encode, parts_of};
-ghost use Rattle.trail.specs.Cells.{literals_of, formula};
-ghost use Rattle.propagating.specs.Kept.{Headed, Short, Written, Assigned, Forced};
+// The engine: a search, and what every engine keeps beside it.
+ghost use Rattle.std.specs.Prelude.{◌≡◌, ◌≤◌, vec_len, vec_capacity};
+ghost use Rattle.engine.specs.declared.types.Phase.TheVariants.{Idle};
 
-use crate::progress::Progress;
-use engine::types::Phase;
-use trail::cells::{Slot, Word};
+use crate::search::Search;
+use engine::control::Control;
 
 pub mod acts;
 
-/// The propagating engine over its memory: slots for variables, of which the first `variables` are taken,
-/// and words for clauses, of which the first `used` are.
+/// The propagating engine over its memory, which holds as many slots for variables and words for clauses as it has places.
 ///
 /// A step costs, besides the choice of a variable (each slot at most once, mostly those after the last decision),
 /// the literals of the clauses that have the negation of a newly assigned literal. The first step looks at every clause once,
 /// and so does a step at a full trail.
 #[derive(Drop)]
 pub struct Propagating {
-    slots: Vec<Slot>,
-    words: Vec<Word>,
-    variables: usize,
-    used: usize,
-    count: u64,
-    phase: Phase,
-    progress: Progress,
-    ghost room: { (variables ≤ vec_len slots) × (used ≤ vec_len words) },
-    ghost coded: { parts_of (encode (formula (take used words.items))) ≡ parts_of (literals_of (take used words.items)) },
-    ghost sized: { size (formula (take used words.items)) ≡ used },
-    ghost inside: { all_inside variables (formula (take used words.items)) ≡ true },
-    ghost headed: { Headed (take used words.items) },
-    ghost short: { Short phase variables progress.trail },
-    ghost written: { Written phase variables progress.trail (take variables slots.items) },
-    ghost assigned: { Assigned phase variables progress.trail (take variables slots.items) },
-    ghost forced: { Forced phase variables (formula (take used words.items)) progress.trail (take variables slots.items) },
+    search: Search,
+    control: Control,
+    ghost slots: { (vec_len search.slots ≤ control.places.variables) × (control.places.variables ≤ vec_capacity search.slots) },
+    ghost words: { (vec_len search.words ≤ control.places.words) × (control.places.words ≤ vec_capacity search.words) },
+    ghost idle: { control.phase ≡ Idle → search.progress.trail ≡ 0 },
 }

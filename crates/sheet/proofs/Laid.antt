@@ -14,9 +14,6 @@ pub part_laid : (a k : ℕ) (xs ys row : List ℕ) → ys ≡ row → k ≡ leng
 part_laid a k xs ys row e h =
     ap (λ y. take a xs ++ (y ++ drop k (drop a xs))) e ∙ ap (λ r. take a xs ++ (row ++ r)) (drop-drop k a xs ∙ ap (λ n. drop (a + n) xs) h)
 
-pub laid_length : (b : List ℕ) (at : ℕ) (x : List ℕ) → at + length x ≤ length b → length (laid b at x) ≡ length b
-laid_length b at x h = simp (length-append, length-take, length-drop) (omega arith)
-
 -- a text laid right after another
 pub laid_more : (b : List ℕ) (at n : ℕ) (x y : List ℕ) → at + length x ≤ length b → n ≡ at + length x → laid (laid b at x) n y ≡ laid b at (x ++ y)
 laid_more b at n x y h e =
@@ -45,17 +42,17 @@ texts_push text k (y ∷ xs) x =
     ∙ sym (append_assoc (text k y) (texts text (k + 1) xs) (text (k + length (y ∷ xs)) x))
 
 -- one turn: with the rows so far laid over b, one more row right after them
-pub rows_turn : {X : Type 0} (text : ℕ → X → List ℕ) (b c : List ℕ) (at i : ℕ) (xs : List X) (x : X) (row : List ℕ)
-    → at + 32 * length xs ≤ length b → i < length xs → x ≡ get_or xs i x → length row ≡ 32 → row ≡ text i x
+pub rows_turn : {X : Type 0} (text : ℕ → X → List ℕ) (b c d : List ℕ) (at i : ℕ) (xs : List X) (x : X) (row : List ℕ)
+    → d ≡ laid c (at + 32 * i) row → at + 32 * length xs ≤ length b → i < length xs → x ≡ get_or xs i x → length row ≡ 32 → row ≡ text i x
     → (c ≡ laid b at (texts text 0 (take i xs))) × (length (texts text 0 (take i xs)) ≡ 32 * i)
-    → (laid c (at + 32 * i) row ≡ laid b at (texts text 0 (take (i + 1) xs))) × (length (texts text 0 (take (i + 1) xs)) ≡ 32 * (i + 1))
-rows_turn text b c at i xs x row room l is_x long is_row before =
+    → (d ≡ laid b at (texts text 0 (take (i + 1) xs))) × (length (texts text 0 (take (i + 1) xs)) ≡ 32 * (i + 1))
+rows_turn text b c d at i xs x row is_d room l is_x long is_row before =
     let so_far = texts text 0 (take i xs) in
     let k : 0 + length (take i xs) ≡ i = omega (arith, length-take-le i xs (omega arith)) in
     let more : texts text 0 (take (i + 1) xs) ≡ so_far ++ row =
     ap (texts text 0) (take_more xs i x l) ∙ texts_push text 0 (take i xs) (get_or xs i x)
     ∙ ap (λ z. so_far ++ z) ((λ j. text (k j) (sym is_x j)) ∙ sym is_row) in (
-      ap (λ z. laid z (at + 32 * i) row) before.0 ∙ laid_more b at (at + 32 * i) so_far row (omega arith) (omega arith) ∙ ap (laid b at) (sym more),
+      is_d ∙ ap (λ z. laid z (at + 32 * i) row) before.0 ∙ laid_more b at (at + 32 * i) so_far row (omega arith) (omega arith) ∙ ap (laid b at) (sym more),
       omega (arith, ap length more, length-append so_far row),
     )
 

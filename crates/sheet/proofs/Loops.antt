@@ -147,12 +147,6 @@ module _ (role : Role) (n : ℕ) (rows : List (List ℕ)) (gates : List Gate) (l
   pub gate_stopped : (f : Fault) → gate_fault role own used gate_row ≡ Some f → gates_fault_in role n rows ≡ Some (moved_to_row (i + 2) f)
   gate_stopped f e = found (gate_look role n rows) (length rows) i (moved_to_row (i + 2) f) h m.faultless (look_is (Some f) e)
 
--- all gates
-pub gates_all : (role : Role) (n : ℕ) (rows : List (List ℕ)) (gates : List Gate) (len cap used i : ℕ) → Gathered role n rows gates len cap used i → i ≡ length rows
-    → (gates_fault_in role n rows ≡ None) × (gates ≡ map gate_in rows)
-gates_all role n rows gates len cap used i m e =
-    (subst (λ k. first_below k (gate_look role n rows) ≡ None) e m.faultless, m.gates_are ∙ ap (map gate_in) (take_all i rows (omega arith)))
-
 abbrev output_look : ℕ → ℕ → List (List ℕ) → ℕ → Option Fault
 output_look g n rows j = at_row (g + j + 2) (output_fault n (get_or rows j []))
 
@@ -162,26 +156,6 @@ pub record Collected (g n : ℕ) (rows : List (List ℕ)) (nets : List ℕ) (len
   pub faultless : first_below j (output_look g n rows) ≡ None
   pub long : len ≡ j
   pub roomy : 16 ≤ cap
-
--- an output more
-module _ (g n : ℕ) (rows : List (List ℕ)) (nets : List ℕ) (len cap j : ℕ) (m : Collected g n rows nets len cap j) (h : j < length rows) where
-  pub output_more : (ns : List ℕ) (net c l : ℕ) → output_fault n (get_or rows j []) ≡ None → net ≡ net_in (get_or rows j [])
-      → ns ≡ nets ++ net ∷ [] → l ≡ len + 1 → c ≡ cap → Collected g n rows ns l c (j + 1)
-  output_more ns net c l e is_net is_ns is_l is_c = record {
-    nets_are = is_ns ∙ ap (λ x. nets ++ x ∷ []) is_net ∙ map_more net_in rows j nets h m.nets_are;
-    faultless = below_passed (output_look g n rows) j m.faultless (ap (at_row (g + j + 2)) e);
-    long = omega (arith, m.long);
-    roomy = omega (arith, m.roomy);
-  }
-
-  pub output_stopped : (f : Fault) → output_fault n (get_or rows j []) ≡ Some f → outputs_fault_in g n rows ≡ Some (moved_to_row (g + j + 2) f)
-  output_stopped f e = found (output_look g n rows) (length rows) j (moved_to_row (g + j + 2) f) h m.faultless (ap (at_row (g + j + 2)) e)
-
--- all outputs
-pub outputs_all : (g n : ℕ) (rows : List (List ℕ)) (nets : List ℕ) (len cap j : ℕ) → Collected g n rows nets len cap j → j ≡ length rows
-    → (outputs_fault_in g n rows ≡ None) × (nets ≡ map net_in rows)
-outputs_all g n rows nets len cap j m e =
-    (subst (λ k. first_below k (output_look g n rows) ≡ None) e m.faultless, m.nets_are ∙ ap (map net_in) (take_all j rows (omega arith)))
 
 -- whole chunks of 32 are the rows of a text
 pub rows_are : (t : List ℕ) (rows : List (List ℕ)) → rows ≡ first_chunks 32 (length t / 32) t → length rows ≡ length t / 32 → length t % 32 ≡ 0 → IsRows t rows

@@ -43,6 +43,8 @@ fn read_gates(
 }
 
 /// The outputs that these rows say, in order, below the rows of the header's gates.
+// No one function with `read_gates`: a gate hands the rows used so far to the next, so a closure that reads a row would
+// have a state, and a bound on it would be asked at each call; what the two loops share is a `?` and a push.
 fn read_outputs(rows: &[Row], header: Header, mut outputs: Vec<u8>) -> Result<Vec<u8>, Fault>
     requires few { (header.inputs ≤ 16) × (header.gates ≤ 200) × (length rows.now ≤ 16) }
     requires empty { (outputs.items ≡ []) × (vec_len outputs ≡ 0) }

@@ -19,18 +19,21 @@ fn gate_row(own: u32, gate: Gate) -> Row
 {
     let letter = gate.kind().letter();
     match gate {
-        Gate::Unary(_, a) => row_text(letter, &[own, a as u32]),
-        Gate::Binary(_, a, b) => row_text(letter, &[own, a as u32, b as u32]),
-        Gate::Table(Inputs::One(a)) => row_text(letter, &[own, a as u32]),
-        Gate::Table(Inputs::Two(a, b)) => row_text(letter, &[own, a as u32, b as u32]),
-        Gate::Table(Inputs::Three(a, b, c)) => row_text(
-            letter,
-            &[own, a as u32, b as u32, c as u32],
-        ),
-        Gate::Table(Inputs::Four(a, b, c, d)) => row_text(
-            letter,
-            &[own, a as u32, b as u32, c as u32, d as u32],
-        ),
+        Gate::Unary(_, a) | Gate::Table(Inputs::One(a)) => {
+            row_text(letter, &[own, u32::from(a)])
+        },
+        Gate::Binary(_, a, b) | Gate::Table(Inputs::Two(a, b)) => {
+            row_text(letter, &[own, u32::from(a), u32::from(b)])
+        },
+        Gate::Table(Inputs::Three(a, b, c)) => {
+            row_text(letter, &[own, u32::from(a), u32::from(b), u32::from(c)])
+        },
+        Gate::Table(Inputs::Four(a, b, c, d)) => {
+            row_text(
+                letter,
+                &[own, u32::from(a), u32::from(b), u32::from(c), u32::from(d)],
+            )
+        },
     }
 }
 
@@ -77,10 +80,10 @@ impl InRows for Circuit {
     fn put(&self, into: &mut [u8], at: usize) {
         let gates = self.gates.as_slice();
         let outputs = self.outputs.as_slice();
-        let own = self.inputs as u32 + 1;
-        let header = [self.inputs as u32, gates.len() as u32, outputs.len() as u32];
+        let inputs = u32::from(self.inputs);
+        let header = [inputs, gates.len() as u32, outputs.len() as u32];
         put_row(into, at, row_text(b'H', &header));
-        let below = at + 32;
+        let (below, own) = (at + 32, inputs + 1);
         put_rows(
             into,
             below,
@@ -96,7 +99,7 @@ impl InRows for Circuit {
             outputs,
             |_, net|
                 ensures { result ≡ output_text net.now }
-            { row_text(b'Q', &[*net as u32]) },
+            { row_text(b'Q', &[u32::from(*net)]) },
         );
     }
 }

@@ -20,10 +20,8 @@ fn written_again(rt: HostRuntime) -> Result<(), Fail> {
 fn too_short(rt: HostRuntime) -> Result<(), Fail> {
     let pair = read_pair(PairRoom::new(rt.alloc())?, INVERTER)?;
     let mut again = [b'*'; 191];
-    match write_pair(&pair, &mut again) {
-        Ok(_) => return Err(Fail::new("written")),
-        Err(refusal) => assert_eq!(rt; refusal.number(), 13),
-    }
+    let written = write_pair(&pair, &mut again);
+    assert_eq!(rt; written.map_err(|refusal| refusal.number()), Err(13));
     for byte in again {
         assert_eq!(rt; byte, b'*');
     }
@@ -34,14 +32,12 @@ fn too_short(rt: HostRuntime) -> Result<(), Fail> {
 fn fault_in_words(rt: HostRuntime) -> Result<(), Fail> {
     let mut bytes = *INVERTER;
     bytes[69] = b'x';
-    match read_pair(PairRoom::new(rt.alloc())?, &bytes) {
-        Ok(_) => Err(Fail::new("read")),
-        Err(fault) => {
-            assert_eq!(rt;
-                format!(in rt.alloc(); "{fault}")?.as_str(),
-                "target, row 3, column 2: field not in form"
-            );
-            Ok(())
-        },
-    }
+    let Err(fault) = read_pair(PairRoom::new(rt.alloc())?, &bytes) else {
+        return Err(Fail::new("read"));
+    };
+    assert_eq!(rt;
+        format!(in rt.alloc(); "{fault}")?.as_str(),
+        "target, row 3, column 2: field not in form"
+    );
+    Ok(())
 }

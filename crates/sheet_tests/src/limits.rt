@@ -19,10 +19,9 @@ const OVERFULL: &[u8; 224] =
 
 /// The number of setting rows, or the fault's number, row and column.
 fn rows(answer: Result<Circuit, Fault>) -> Result<usize, (u32, u16, u8)> {
-    match answer {
-        Ok(circuit) => Ok(circuit.rows()),
-        Err(fault) => Err((fault.number(), fault.row, fault.column)),
-    }
+    answer
+        .map(|circuit| circuit.rows())
+        .map_err(|fault| (fault.number(), fault.row, fault.column))
 }
 
 #[test]

@@ -1,16 +1,14 @@
 -- A clause in memory read word by word, under the values so far.
-use Rattle.std.proofs.Common.{◌≡◌, ℕ, ◌+◌, ◌-◌, ◌<◌, ◌≤◌, Bool, true, false, cond, not, List, [], ◌∷◌, length, get_or, take, drop, is_some, Some, None, Option, unwrap_or, sym, refl, ap, ◌∙◌, arith}
-use mathlib.Core.Bool.{beq}
+use Rattle.std.proofs.Common.{◌≡◌, ℕ, ◌+◌, ◌-◌, ◌<◌, ◌≤◌, Bool, true, false, cond, List, ◌∷◌, length, get_or, take, drop, is_some, Some, None, Option, unwrap_or, sym, refl, ap, ◌∙◌, arith}
 use borrow.Author.Tests.{both_ways}
 use lib.ListN.{length-map}
 use Rattle.std.proofs.lemmas.List.{drop_more, drop_all, take-map, drop-map}
-use Rattle.std.specs.Option.{option_map}
-use Rattle.clause.specs.Logic.{Row, Clause, some_outside, all_inside, literal_holds, clause_holds, all_hold, outside, value}
+use Rattle.clause.specs.Logic.{Row, Clause, some_outside, all_inside, clause_holds, all_hold, value}
 use Rattle.clause.specs.Memory.{Begins, encode, is_head}
-use Rattle.clause.proofs.Coding.{front, begins_at, ends_empty}
+use Rattle.clause.proofs.Coding.{front, begins_at}
 use Rattle.clause.specs.declared.literal.Literal.{Literal}
-use Rattle.clause.proofs.Inside.{inside_at, all_true, both_true, within}
-use Rattle.trail.specs.Cells.{values_of, literals_of, heads_of, empty_literal, formula, size_at, clause_at}
+use Rattle.clause.proofs.Inside.{inside_at, all_true, both_true}
+use Rattle.trail.specs.Cells.{values_of, literals_of, heads_of, empty_literal, formula, size_at, clause_at, empty_slot, empty_word}
 use Rattle.trail.specs.Values.{Values, either, truth, status_from, row_of}
 use Rattle.trail.specs.Standing.{Loaded}
 use Rattle.trail.specs.declared.cells.Slot.{Slot}
@@ -18,56 +16,37 @@ use Rattle.trail.specs.declared.cells.Word.{Word}
 use Rattle.trail.specs.declared.status.Status.{Status}
 use Rattle.trail.specs.declared.status.Status.TheVariants.{Satisfied, Unresolved, Unit, Falsified}
 use Rattle.trail.proofs.Slots.{field_at}
-use Rattle.trail.proofs.Memory.{zero_slot, value_read}
+use Rattle.trail.proofs.Memory.{value_any}
 use Rattle.trail.proofs.Verdicts.{Entailed, row_value}
 
--- what the code reads past the end
-abbrev pub zero_word : Word
-zero_word = record { literal = empty_literal; head = 0; older = 0 }
-
-pub word_read : (ws : List Word) (i : ℕ) → i < length ws → (get_or ws i zero_word).literal ≡ get_or (literals_of ws) i empty_literal
-word_read ws i h = field_at (λ w. w.literal) ws i zero_word empty_literal h
+pub word_read : (ws : List Word) (i : ℕ) → i < length ws → (get_or ws i empty_word).literal ≡ get_or (literals_of ws) i empty_literal
+word_read ws i h = field_at (λ w. w.literal) ws i empty_word empty_literal h
 
 pub literals_long : (ws : List Word) → length (literals_of ws) ≡ length ws
 literals_long ws = length-map ws (λ w. w.literal)
 
 -- the rest of a clause from a place on
-pub rest_at : (ws : List Word) (i : ℕ) → i < length ws → drop i (literals_of ws) ≡ (get_or ws i zero_word).literal ∷ drop (i + 1) (literals_of ws)
+pub rest_at : (ws : List Word) (i : ℕ) → i < length ws → drop i (literals_of ws) ≡ (get_or ws i empty_word).literal ∷ drop (i + 1) (literals_of ws)
 rest_at ws i h = drop_more (literals_of ws) i empty_literal (omega (arith, literals_long ws)) ∙ ap (λ x. x ∷ drop (i + 1) (literals_of ws)) (sym (word_read ws i h))
 
 pub record WordAt (v : ℕ) (ws : List Word) (i : ℕ) : Type 0 where
-  pub low : 1 ≤ (get_or ws i zero_word).literal.variable
-  pub high : (get_or ws i zero_word).literal.variable ≤ v
+  pub low : 1 ≤ (get_or ws i empty_word).literal.variable
+  pub high : (get_or ws i empty_word).literal.variable ≤ v
   pub rest : some_outside v (drop (i + 1) (literals_of ws)) ≡ false
 
 pub word_at : (v : ℕ) (ws : List Word) (i : ℕ) → i < length ws → some_outside v (drop i (literals_of ws)) ≡ false → WordAt v ws i
 word_at v ws i h o =
     let a = inside_at v (literals_of ws) i (omega (arith, literals_long ws)) o in
-    let same : (get_or ws i zero_word).literal.variable ≡ (get_or (literals_of ws) i empty_literal).variable = ap (λ l. l.variable) (word_read ws i h) in
+    let same : (get_or ws i empty_word).literal.variable ≡ (get_or (literals_of ws) i empty_literal).variable = ap (λ l. l.variable) (word_read ws i h) in
     record { low = omega (arith, a.here.low); high = omega (arith, a.here.high); rest = a.rest }
 
--- a literal's truth as the code tells it
-differs : (b n : Bool) → cond n (not b) b ≡ not (beq b n)
-differs true true = refl
-differs true false = refl
-differs false true = refl
-differs false false = refl
-
-pub truth_known : (ss : List Slot) (l : Literal) (b : Bool) → l.variable - 1 < length ss → (get_or ss (l.variable - 1) zero_slot).value ≡ Some b
-    → Some (not (beq b l.negated)) ≡ truth (values_of ss) l
-truth_known ss l b h e =
-    ap (λ x. Some x) (sym (differs b l.negated)) ∙ sym (ap (option_map (λ b. cond l.negated (not b) b)) (sym (value_read ss (l.variable - 1) h) ∙ e))
-
-pub truth_open : (ss : List Slot) (l : Literal) → l.variable - 1 < length ss → (get_or ss (l.variable - 1) zero_slot).value ≡ None → None ≡ truth (values_of ss) l
-truth_open ss l h e = sym (ap (option_map (λ b. cond l.negated (not b) b)) (sym (value_read ss (l.variable - 1) h) ∙ e))
-
 -- the status of what is left, in terms of the truth of its first literal
-pub status_at : (vs : Values) (p : Option Literal) (ws : List Word) (i : ℕ) (o : Option Bool) → i < length ws → o ≡ truth vs (get_or ws i zero_word).literal
+pub status_at : (vs : Values) (p : Option Literal) (ws : List Word) (i : ℕ) (o : Option Bool) → i < length ws → o ≡ truth vs (get_or ws i empty_word).literal
     → status_from vs p (drop i (literals_of ws))
-    ≡ either o (either p (status_from vs (Some (get_or ws i zero_word).literal) (drop (i + 1) (literals_of ws))) (λ _. Unresolved)) (λ holds. cond holds Satisfied (status_from vs p (drop (i + 1) (literals_of ws))))
+    ≡ either o (either p (status_from vs (Some (get_or ws i empty_word).literal) (drop (i + 1) (literals_of ws))) (λ _. Unresolved)) (λ holds. cond holds Satisfied (status_from vs p (drop (i + 1) (literals_of ws))))
 status_at vs p ws i o h e =
     ap (status_from vs p) (rest_at ws i h)
-    ∙ ap (λ x. either x (either p (status_from vs (Some (get_or ws i zero_word).literal) (drop (i + 1) (literals_of ws))) (λ _. Unresolved)) (λ holds. cond holds Satisfied (status_from vs p (drop (i + 1) (literals_of ws))))) (sym e)
+    ∙ ap (λ x. either x (either p (status_from vs (Some (get_or ws i empty_word).literal) (drop (i + 1) (literals_of ws))) (λ _. Unresolved)) (λ holds. cond holds Satisfied (status_from vs p (drop (i + 1) (literals_of ws))))) (sym e)
 
 pub two_open : (p : Option Literal) (s : Status) → true ≡ is_some p → either p s (λ _. Unresolved) ≡ Unresolved
 two_open None s e = absurd (both_ways false refl (sym e))
@@ -130,26 +109,12 @@ pub begins_here : (v : ℕ) (ws : List Word) (at : ℕ) (rest : List Clause) →
 begins_here v ws at rest h e i m = record { rest = rest; here = e; below = omega (arith, literals_long ws); inside = i; entailed = m }
 
 -- every word's head is one
-pub begins_of : (v : ℕ) (ws : List Word) (w : ℕ) → Loaded v ws → w < length ws → Begins v (literals_of ws) (formula ws) (get_or ws w zero_word).head
-begins_of v ws w l h =
-    let same : (get_or ws w zero_word).head ≡ get_or (heads_of ws) w 0 = field_at (λ x. x.head) ws w zero_word 0 h in
-    begins_at v (literals_of ws) (formula ws) (get_or ws w zero_word).head (sym l.coded) l.inside (ap (is_head (formula ws)) same ∙ l.headed w h)
+pub begins_of : (v : ℕ) (ws : List Word) (i : ℕ) (w : Word) → Loaded v ws → i < length ws → w ≡ get_or ws i w → Begins v (literals_of ws) (formula ws) w.head
+begins_of v ws i w l h e =
+    let same : w.head ≡ get_or (heads_of ws) i 0 = ap (λ x. x.head) e ∙ field_at (λ x. x.head) ws i w 0 h in
+    begins_at v (literals_of ws) (formula ws) w.head (sym l.coded) l.inside (ap (is_head (formula ws)) same ∙ l.headed i h)
 
 -- Whether a clause holds, read word by word.
-pub value_told : (ss : List Slot) (x : ℕ) (b : Bool) → outside (length ss) x ≡ false → b ≡ unwrap_or (get_or ss (x - 1) zero_slot).value false → b ≡ value (row_of (values_of ss)) x
-value_told ss x b o e =
-    let w = within (length ss) x o in
-    e ∙ ap (λ y. unwrap_or y false) (value_read ss (x - 1) (omega (arith, w.low, w.high))) ∙ sym (row_value (values_of ss) (x - 1))
-
-pub literal_told : (row : Row) (l : Literal) (b : Bool) → b ≡ value row l.variable → not (beq b l.negated) ≡ literal_holds row l
-literal_told row l b e = sym (differs b l.negated) ∙ ap (λ x. cond l.negated (not x) x) e
-
-pub clause_first : (row : Row) (ws : List Word) (i : ℕ) (b : Bool) → i < length ws → b ≡ literal_holds row (get_or ws i zero_word).literal
-    → clause_holds row (drop i (literals_of ws)) ≡ cond b true (clause_holds row (drop (i + 1) (literals_of ws)))
-clause_first row ws i b h e = ap (clause_holds row) (rest_at ws i h) ∙ ap (λ x. cond x true (clause_holds row (drop (i + 1) (literals_of ws)))) (sym e)
-
-pub clause_end : (row : Row) (ws : List Word) (i : ℕ) → length ws ≤ i → clause_holds row (drop i (literals_of ws)) ≡ false
-clause_end row ws i h = ap (clause_holds row) (drop_all i (literals_of ws) (omega (arith, literals_long ws)))
-
-pub no_clause : (ws : List Word) (head : ℕ) (rest : List Clause) → length ws ≤ head → drop head (literals_of ws) ≡ encode rest → rest ≡ []
-no_clause ws head rest h e = ends_empty (literals_of ws) head rest (omega (arith, literals_long ws)) e
+pub value_told : (ss : List Slot) (x i : ℕ) (s : Slot) (b : Bool) → i ≡ x - 1 → s ≡ get_or ss i empty_slot → b ≡ unwrap_or s.value false → b ≡ value (row_of (values_of ss)) x
+value_told ss x i s b p h e =
+    e ∙ ap (λ y. unwrap_or y.value false) h ∙ ap (λ y. unwrap_or y false) (value_any ss i) ∙ sym (row_value (values_of ss) i) ∙ ap (λ k. get_or (row_of (values_of ss)) k false) p

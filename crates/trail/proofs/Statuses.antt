@@ -1,11 +1,10 @@
 -- What a clause's status says of every row that fits the values so far.
-use Rattle.std.proofs.Common.{◌≡◌, ℕ, Bool, true, false, cond, not, ◌⊎◌, [], ◌∷◌, Some, None, Option, sym, refl, ap, ◌∙◌, inl, inr, arith}
+use Rattle.std.proofs.Common.{◌≡◌, ℕ, Bool, true, false, cond, not, [], ◌∷◌, Some, None, Option, sym, refl, ap, ◌∙◌, arith}
 use Rattle.clause.specs.Logic.{Row, Clause, literal_holds, clause_holds, outside, some_outside}
 use Rattle.clause.specs.declared.literal.Literal.{Literal}
 use Rattle.clause.proofs.Inside.{either_false}
 use Rattle.std.specs.Option.{option_map}
-use Rattle.trail.specs.Values.{Values, value_so_far, either, truth, status_from, status, is_falsified}
-use Rattle.trail.specs.declared.status.Status.{Status}
+use Rattle.trail.specs.Values.{Values, value_so_far, either, truth, status_from, status}
 use Rattle.trail.specs.declared.status.Status.TheVariants.{Satisfied, Unresolved, Unit, Falsified}
 use Rattle.trail.proofs.Fitting.{Fits, told}
 
@@ -96,8 +95,3 @@ falsified vs row (x ∷ c) f e = go (first vs row None x c f) (falsified vs row 
     go (opened v s) rest = absurd (never vs row x c f (sym s ∙ e))
     go (holds s h) rest = let clash : Satisfied ≡ Falsified = sym s ∙ e in let z : ◌≡◌ {A = ℕ} 0 1 = cc in absurd (omega arith)
     go (fails s h) rest = h ∙ rest (sym s ∙ e)
-
--- neither a satisfied nor an unresolved clause is falsified
-pub quiet : (s : Status) → (s ≡ Satisfied) ⊎ (s ≡ Unresolved) → is_falsified s ≡ false
-quiet s (inl e) = ap is_falsified e
-quiet s (inr e) = ap is_falsified e

@@ -1,7 +1,7 @@
 -- A clause written into memory word by word: its literals, its heads, and what the whole list then is.
-use Rattle.std.proofs.Common.{◌≡◌, ℕ, suc, ◌+◌, ◌-◌, ◌<◌, ◌≤◌, true, false, ◌⊎◌, List, [], ◌∷◌, ◌++◌, map, length, get_or, take, set, replicate, sym, ap, ◌∙◌, inl, inr, append_assoc, arith, length-append}
+use Rattle.std.proofs.Common.{◌≡◌, ℕ, suc, ◌+◌, ◌-◌, ◌<◌, ◌≤◌, true, false, ◌⊎◌, List, [], ◌∷◌, ◌++◌, length, get_or, take, replicate, sym, ap, ◌∙◌, inl, inr, append_assoc, arith, length-append}
 use lib.ListN.{length-replicate, length-map}
-use Rattle.std.proofs.lemmas.List.{take_more, take_more_set, take_all, map_push, replicate_more, get_or_append_left, get_or-append_right, get_or-replicate}
+use Rattle.std.proofs.lemmas.List.{take_more, take_all, map_push, replicate_more, get_or_append_left, get_or-append_right, get_or-replicate}
 use Rattle.std.proofs.lemmas.Bool.{cases_lt}
 use Rattle.clause.specs.Logic.{Clause, words, some_outside, all_inside}
 use Rattle.clause.specs.Memory.{head, is_head}
@@ -13,40 +13,31 @@ use Rattle.trail.specs.Standing.{Loaded}
 use Rattle.trail.specs.declared.cells.Word.{Word}
 
 -- one word more
-push_field : {Y : Type 0} (f : Word → Y) (ws : List Word) (k : ℕ) (w : Word) → k < length ws → map f (take (k + 1) (set ws k w)) ≡ map f (take k ws) ++ (f w ∷ [])
-push_field f ws k w h = ap (map f) (take_more_set ws k w h) ∙ map_push f (take k ws) w
+pub store_literal : (new old : List Word) (w : Word) (c : Clause) (i : ℕ) (before : List Literal) → new ≡ old ++ (w ∷ []) → w.literal ≡ get_or c i empty_literal → i < length c
+    → literals_of old ≡ before ++ take i c → literals_of new ≡ before ++ take (i + 1) c
+store_literal new old w c i before n e l s =
+    ap literals_of n ∙ map_push (λ x. x.literal) old w ∙ ap (λ x. x ++ (w.literal ∷ [])) s ∙ append_assoc before (take i c) (w.literal ∷ [])
+    ∙ ap (λ x. before ++ (take i c ++ (x ∷ []))) e ∙ ap (λ x. before ++ x) (sym (take_more c i empty_literal l))
 
-pub store_literal : (ws : List Word) (from i : ℕ) (w : Word) (c : Clause) (old : List Literal) → from + i < length ws → i < length c → w.literal ≡ get_or c i empty_literal
-    → literals_of (take (from + i) ws) ≡ old ++ take i c → literals_of (take (from + (i + 1)) (set ws (from + i) w)) ≡ old ++ take (i + 1) c
-store_literal ws from i w c old h l e s =
-    let place : from + (i + 1) ≡ from + i + 1 = omega arith in
-    ap (λ k. literals_of (take k (set ws (from + i) w))) place ∙ push_field (λ x. x.literal) ws (from + i) w h ∙ ap (λ x. x ++ (w.literal ∷ [])) s
-    ∙ append_assoc old (take i c) (w.literal ∷ []) ∙ ap (λ x. old ++ (take i c ++ (x ∷ []))) e ∙ ap (λ x. old ++ x) (sym (take_more c i empty_literal l))
+pub store_head : (new old : List Word) (w : Word) (u i : ℕ) (before : List ℕ) → new ≡ old ++ (w ∷ []) → w.head ≡ u
+    → heads_of old ≡ before ++ replicate i u → heads_of new ≡ before ++ replicate (i + 1) u
+store_head new old w u i before n e s =
+    ap heads_of n ∙ map_push (λ x. x.head) old w ∙ ap (λ x. x ++ (w.head ∷ [])) s ∙ append_assoc before (replicate i u) (w.head ∷ [])
+    ∙ ap (λ x. before ++ (replicate i u ++ (x ∷ []))) e ∙ ap (λ x. before ++ x) (replicate_more i u)
 
-pub store_head : (ws : List Word) (from i : ℕ) (w : Word) (u : ℕ) (old : List ℕ) → from + i < length ws → w.head ≡ u
-    → heads_of (take (from + i) ws) ≡ old ++ replicate i u → heads_of (take (from + (i + 1)) (set ws (from + i) w)) ≡ old ++ replicate (i + 1) u
-store_head ws from i w u old h e s =
-    let place : from + (i + 1) ≡ from + i + 1 = omega arith in
-    ap (λ k. heads_of (take k (set ws (from + i) w))) place ∙ push_field (λ x. x.head) ws (from + i) w h ∙ ap (λ x. x ++ (w.head ∷ [])) s
-    ∙ append_assoc old (replicate i u) (w.head ∷ []) ∙ ap (λ x. old ++ (replicate i u ++ (x ∷ []))) e ∙ ap (λ x. old ++ x) (replicate_more i u)
+-- the whole clause, after its head
+pub store_literals : (new first old : List Word) (w : Word) (c : Clause) (i : ℕ) → first ≡ old ++ (w ∷ []) → w.literal ≡ head (length c) → length c ≤ i
+    → literals_of new ≡ literals_of first ++ take i c → literals_of new ≡ literals_of old ++ (head (length c) ∷ c)
+store_literals new first old w c i n e l s =
+    s ∙ ap (λ x. x ++ take i c) (ap literals_of n ∙ map_push (λ x. x.literal) old w ∙ ap (λ x. literals_of old ++ (x ∷ [])) e)
+    ∙ append_assoc (literals_of old) (head (length c) ∷ []) (take i c) ∙ ap (λ x. literals_of old ++ (head (length c) ∷ x)) (take_all i c l)
 
--- the whole clause
-pub store_literals : (ws ws' : List Word) (used i : ℕ) (w : Word) (c : Clause) → used < length ws → w.literal ≡ head (length c) → length c ≤ i → i ≤ length c
-    → literals_of (take (used + 1 + i) ws') ≡ literals_of (take (used + 1) (set ws used w)) ++ take i c
-    → literals_of (take (used + 1 + length c) ws') ≡ literals_of (take used ws) ++ (head (length c) ∷ c)
-store_literals ws ws' used i w c h e a b s =
-    let same : length c ≡ i = omega arith in
-    ap (λ k. literals_of (take (used + 1 + k) ws')) same ∙ s ∙ ap (λ x. x ++ take i c) (push_field (λ x. x.literal) ws used w h ∙ ap (λ x. literals_of (take used ws) ++ (x ∷ [])) e)
-    ∙ append_assoc (literals_of (take used ws)) (head (length c) ∷ []) (take i c) ∙ ap (λ x. literals_of (take used ws) ++ (head (length c) ∷ x)) (take_all i c a)
-
-pub store_heads : (ws ws' : List Word) (used i : ℕ) (w : Word) (n : ℕ) → used < length ws → w.head ≡ used → n ≤ i → i ≤ n
-    → heads_of (take (used + 1 + i) ws') ≡ heads_of (take (used + 1) (set ws used w)) ++ replicate i used
-    → heads_of (take (used + 1 + n) ws') ≡ heads_of (take used ws) ++ replicate (1 + n) used
-store_heads ws ws' used i w n h e a b s =
-    let same : n ≡ i = omega arith in
+pub store_heads : (new first old : List Word) (w : Word) (u i n : ℕ) → first ≡ old ++ (w ∷ []) → w.head ≡ u → n ≡ i
+    → heads_of new ≡ heads_of first ++ replicate i u → heads_of new ≡ heads_of old ++ replicate (1 + n) u
+store_heads new first old w u i n m e l s =
     let more : suc i ≡ 1 + n = omega arith in
-    ap (λ k. heads_of (take (used + 1 + k) ws')) same ∙ s ∙ ap (λ x. x ++ replicate i used) (push_field (λ x. x.head) ws used w h ∙ ap (λ x. heads_of (take used ws) ++ (x ∷ [])) e)
-    ∙ append_assoc (heads_of (take used ws)) (used ∷ []) (replicate i used) ∙ ap (λ k. heads_of (take used ws) ++ replicate k used) more
+    s ∙ ap (λ x. x ++ replicate i u) (ap heads_of m ∙ map_push (λ x. x.head) old w ∙ ap (λ x. heads_of old ++ (x ∷ [])) e)
+    ∙ append_assoc (heads_of old) (u ∷ []) (replicate i u) ∙ ap (λ k. heads_of old ++ replicate k u) more
 
 -- The memory is loaded with one clause more.
 pub loaded_more : (v : ℕ) (old new : List Word) (c : Clause) → Loaded v old → some_outside v c ≡ false

@@ -1,19 +1,18 @@
 -- What a clause's status does to a search, and what a full trail says.
-use Rattle.std.proofs.Common.{◌≡◌, ℕ, ◌+◌, ◌<◌, ◌≤◌, Bool, true, false, ◌⊎◌, List, length, get_or, take, set, Some, None, Option, unwrap_or, sym, refl, ap, ◌∙◌, subst, inl, inr, arith}
+use Rattle.std.proofs.Common.{◌≡◌, ℕ, ◌<◌, ◌≤◌, Bool, true, false, ◌⊎◌, List, length, get_or, take, Some, None, Option, unwrap_or, sym, refl, ap, ◌∙◌, subst, inl, inr, arith}
 use borrow.Author.Tests.{both_ways}
 use lib.ListN.{length-map}
 use Rattle.std.proofs.lemmas.List.{get_or-map, get_or_past, ext_get_or}
 use Rattle.std.proofs.lemmas.Bool.{cases_lt}
-use Rattle.clause.specs.Logic.{Row, Clause, Solves, clause_holds, all_hold, outside, some_outside}
+use Rattle.clause.specs.Logic.{Row, Clause, clause_holds, all_hold, outside, some_outside}
 use Rattle.clause.specs.declared.literal.Literal.{Literal}
-use Rattle.trail.specs.Values.{Values, value_so_far, assign, status, row_of}
+use Rattle.trail.specs.Values.{Values, value_so_far, status, row_of}
 use Rattle.trail.specs.Trail.{Trail, agrees, Refuted}
-use Rattle.trail.specs.Standing.{Standing, Onward}
-use Rattle.trail.specs.declared.cells.Entry.{Entry}
+use Rattle.trail.specs.Standing.{Standing}
 use Rattle.trail.specs.declared.status.Status.TheVariants.{Unit, Falsified}
 use Rattle.trail.proofs.Fitting.{Fits, fits_written}
 use Rattle.trail.proofs.Statuses.{unit, falsified}
-use Rattle.trail.proofs.Soundness.{Forces, pushed}
+use Rattle.trail.proofs.Soundness.{Forces}
 
 -- a clause that holds wherever the formula does
 abbrev pub Entailed : List Clause → Clause → Type 0
@@ -35,16 +34,6 @@ fits_standing v cs n vs es row s a = subst (λ x. Fits x row) (sym s.written) (f
 pub conflict : (v : ℕ) (cs : List Clause) (n : ℕ) (vs : Values) (es : Trail) (c : Clause) → Standing v cs n vs es → Entailed cs c → status vs c ≡ Falsified → Refuted v cs (take n es)
 conflict v cs n vs es c s t f row m a = both_ways (clause_holds row c) (falsified vs row c (fits_standing v cs n vs es row s a) f) (t row m.holds)
 
--- Where nothing follows, all stays.
-pub stays : (v : ℕ) (cs : List Clause) (n : ℕ) (vs : Values) (es : Trail) → Standing v cs n vs es → Onward v cs n es false n vs es
-stays v cs n vs es s = record { standing = s; owes = omega arith; refuted = λ e. absurd (both_ways false refl e) }
-
-pub stops : (v : ℕ) (cs : List Clause) (n : ℕ) (vs : Values) (es : Trail) (c : Clause) → Standing v cs n vs es → Entailed cs c → status vs c ≡ Falsified → Onward v cs n es true n vs es
-stops v cs n vs es c s t f = record { standing = s; owes = omega arith; refuted = λ e. conflict v cs n vs es c s t f }
-
-abbrev forced_entry : Literal → Entry
-forced_entry l = record { literal = l; decided = false }
-
 -- a unit clause's literal may be put
 pub record MayPut (v : ℕ) (cs : List Clause) (n : ℕ) (vs : Values) (es : Trail) (l : Literal) : Type 0 where
   pub inside : outside v l.variable ≡ false
@@ -60,16 +49,6 @@ may_put v cs n vs es c l s t o u =
       forces = λ row m a. (unit vs row l v c (fits_standing v cs n vs es row s a) o u).forces (t row m.holds);
     }
 
-pub follows : (v : ℕ) (cs : List Clause) (n : ℕ) (vs : Values) (es : Trail) (l : Literal) → Standing v cs n vs es → MayPut v cs n vs es l
-    → Onward v cs n es false (n + 1) (assign vs l) (set es n (record { literal = l; decided = false }))
-follows v cs n vs es l s m =
-    let p = pushed v cs n vs es (forced_entry l) s m.inside m.opened (λ _. m.forces) in
-    record { standing = p.standing; owes = omega (arith, p.owes); refuted = λ e. absurd (both_ways false refl e) }
-
--- One part after another.
-pub onward_then : (v : ℕ) (cs : List Clause) (n n₁ n₂ : ℕ) (es es₁ es₂ : Trail) (vs₁ vs₂ : Values) (a b : Bool) → Onward v cs n es a n₁ vs₁ es₁ → Onward v cs n₁ es₁ b n₂ vs₂ es₂ → Onward v cs n es b n₂ vs₂ es₂
-onward_then v cs n n₁ n₂ es es₁ es₂ vs₁ vs₂ a b p q = record { standing = q.standing; owes = omega (arith, p.owes, q.owes); refuted = q.refuted }
-
 -- No variable is open: only one row agrees with the trail.
 abbrev pub Full : Values → Type 0
 Full vs = (j : ℕ) → j < length vs → get_or vs j None ≡ None → ⊥
@@ -81,14 +60,7 @@ full_row vs row full f l = ext_get_or false row (row_of vs) (l ∙ sym (length-m
     go i h None e = absurd (full i h e)
     go i h (Some b) e = f i b e ∙ sym (fits_row vs i b e)
 
-pub solved : (v : ℕ) (cs : List Clause) (n : ℕ) (vs : Values) (es : Trail) → Standing v cs n vs es → all_hold (row_of vs) cs ≡ true → Solves v cs (row_of vs)
-solved v cs n vs es s h = record { long = length-map vs (λ o. unwrap_or o false) ∙ s.values_long; holds = h }
-
 pub full_refuted : (v : ℕ) (cs : List Clause) (n : ℕ) (vs : Values) (es : Trail) → Standing v cs n vs es → Full vs → all_hold (row_of vs) cs ≡ false → Refuted v cs (take n es)
 full_refuted v cs n vs es s full h row m a =
     let same : row ≡ row_of vs = full_row vs row full (fits_standing v cs n vs es row s a) (m.long ∙ sym s.values_long) in
     both_ways (all_hold row cs) (ap (λ x. all_hold x cs) same ∙ h) m.holds
-
--- the same in the code's terms
-pub onward_as : (v : ℕ) (cs : List Clause) (n : ℕ) (es : Trail) (b : Bool) (n' : ℕ) (vs₁ vs₂ : Values) (es₁ es₂ : Trail) → vs₂ ≡ vs₁ → es₂ ≡ es₁ → Onward v cs n es b n' vs₁ es₁ → Onward v cs n es b n' vs₂ es₂
-onward_as v cs n es b n' vs₁ vs₂ es₁ es₂ e f o = subst (λ x. Onward v cs n es b n' vs₂ x) (sym f) (subst (λ x. Onward v cs n es b n' x es₁) (sym e) o)

@@ -14,15 +14,11 @@ empty_literal = record { variable = 0; negated = false }
 abbrev pub empty_entry : Entry
 empty_entry = record { literal = empty_literal; decided = false }
 
--- no word has this number
-abbrev pub no_word : ℕ
-no_word = 18446744073709551615
-
 abbrev pub empty_slot : Slot
-empty_slot = record { value = None; entry = empty_entry; positive = no_word; negative = no_word }
+empty_slot = record { value = None; entry = empty_entry; positive = None; negative = None }
 
 abbrev pub empty_word : Word
-empty_word = record { literal = empty_literal; head = 0; older = no_word }
+empty_word = record { literal = empty_literal; head = 0; older = None }
 
 -- the variables' values
 abbrev pub values_of : List Slot → Values
@@ -41,7 +37,7 @@ heads_of words = map (λ w. w.head) words
 
 -- the number of literals of the clause whose head is there
 abbrev pub size_at : List Word → ℕ → ℕ
-size_at words h = (slice_index_or words h (record { literal = empty_literal; head = 0; older = 0 })).literal.variable
+size_at words h = (slice_index_or words h empty_word).literal.variable
 
 -- the words of that clause's literals
 abbrev pub clause_at : List Word → ℕ → List Word

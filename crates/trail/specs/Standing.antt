@@ -1,12 +1,11 @@
 -- What holds of a search between its parts, and what each part does to it.
-use Rattle.std.specs.Prelude.{◌≡◌, ℕ, ◌+◌, ◌<◌, ◌≤◌, Bool, true, false, List, length, take, slice_index, slice_set}
+use Rattle.std.specs.Prelude.{◌≡◌, ℕ, ◌+◌, ◌<◌, ◌≤◌, true, false, List, length, take, slice_index, slice_set}
 use Rattle.clause.specs.Logic.{Clause, all_inside, negation}
 use Rattle.clause.specs.Memory.{encode, is_head}
 use Rattle.trail.specs.Cells.{literals_of, heads_of, formula}
 use Rattle.trail.specs.declared.cells.Word.{Word}
 use Rattle.trail.specs.Values.{Values, assign}
-use Rattle.trail.specs.Trail.{Trail, written, Fresh, Sound, Refuted, entry_at, literal_at}
-use Rattle.trail.specs.Debt.{debt}
+use Rattle.trail.specs.Trail.{Trail, written, Fresh, Sound, entry_at, literal_at}
 
 -- values and positions of v variables, n of which are on the trail
 pub record Standing (v : ℕ) (cs : List Clause) (n : ℕ) (vs : Values) (es : Trail) : Type 0 where
@@ -22,12 +21,6 @@ pub record Loaded (v : ℕ) (words : List Word) : Type 0 where
   pub coded : encode (formula words) ≡ literals_of words
   pub inside : all_inside v (formula words) ≡ true
   pub headed : (w : ℕ) → w < length words → is_head (formula words) (slice_index (heads_of words) w) ≡ true
-
--- forced literals were put on the trail; where there was a conflict, no model agrees with it
-pub record Onward (v : ℕ) (cs : List Clause) (n : ℕ) (es : Trail) (conflict : Bool) (n' : ℕ) (vs' : Values) (es' : Trail) : Type 0 where
-  pub standing : Standing v cs n' vs' es'
-  pub owes : debt v (take n' es') ≤ debt v (take n es)
-  pub refuted : conflict ≡ true → Refuted v cs (take n' es')
 
 -- the trail was taken back to its last open decision, at position p, which was taken off too
 pub record BackTo (v n p : ℕ) (es : Trail) (vs' : Values) : Type 0 where

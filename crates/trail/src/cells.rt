@@ -1,36 +1,35 @@
 // One element of an engine's memory for variables, and one of its memory for words.
-ghost use Rattle.std.specs.Prelude.{◌≡◌};
+ghost use Rattle.std.specs.Prelude.{◌≡◌, Some, if◌then◌else◌};
 ghost use Rattle.trail.specs.Cells.{empty_slot, empty_word};
 
 use clause::literal::Literal;
+use clause::memory::AsLiteral;
 
 /// A position of the trail: an assigned literal, and whether it is an open decision or was forced.
-#[derive(Clone, Copy)]
+#[derive(Clone, Copy, Debug, PartialEq, Eq)]
 pub struct Entry {
     pub literal: Literal,
     pub decided: bool,
 }
 
-/// No word: no place in memory has this number.
-pub const NO_WORD: usize = usize::MAX;
-
 /// Slot i serves variable i + 1 with its value so far and the newest words that hold its literals,
 /// and, apart from that, position i of the trail.
-#[derive(Clone, Copy)]
+// Words are named by their place: the memory is fixed, and no call allocates.
+#[derive(Clone, Copy, Debug, PartialEq, Eq)]
 pub struct Slot {
     pub value: Option<bool>,
     pub entry: Entry,
-    pub positive: usize,
-    pub negative: usize,
+    pub positive: Option<usize>,
+    pub negative: Option<usize>,
 }
 
 /// A clause lies in memory as a head, with the number of its literals in the place of a variable, and then its literals.
 /// Each word tells where its clause's head is, and a literal's word the next older word with the same literal.
-#[derive(Clone, Copy)]
+#[derive(Clone, Copy, Debug, PartialEq, Eq)]
 pub struct Word {
     pub literal: Literal,
     pub head: usize,
-    pub older: usize,
+    pub older: Option<usize>,
 }
 
 impl Slot {
@@ -47,8 +46,32 @@ impl Slot {
                 },
                 decided: false,
             },
-            positive: NO_WORD,
-            negative: NO_WORD,
+            positive: None,
+            negative: None,
+        }
+    }
+
+    /// The newest word that holds the literal, which is the slot's variable or its negation.
+    pub fn newest(&self, literal: Literal) -> Option<usize>
+        ensures { result ≡ (if literal.negated then self.now.negative else self.now.positive) }
+    {
+        let Slot {
+            positive,
+            negative,
+            ..
+        } = *self;
+        if literal.negated { negative } else { positive }
+    }
+
+    /// Makes a word the newest that holds the literal, and tells which was.
+    pub fn link(&mut self, literal: Literal, word: usize) -> Option<usize>
+        ensures older { result ≡ (if literal.negated then self.old.negative else self.old.positive) }
+        ensures linked { self.new ≡ (if literal.negated then record self.old { negative = Some word } else record self.old { positive = Some word }) }
+    {
+        if literal.negated {
+            self.negative.replace(word)
+        } else {
+            self.positive.replace(word)
         }
     }
 }
@@ -64,7 +87,15 @@ impl Word {
                 negated: false,
             },
             head: 0,
-            older: NO_WORD,
+            older: None,
         }
+    }
+}
+
+impl AsLiteral for Word {
+    ghost literal = { λ w. w.literal };
+
+    fn literal(&self) -> Literal {
+        self.literal
     }
 }

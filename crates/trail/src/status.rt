@@ -2,7 +2,7 @@
 use clause::literal::Literal;
 
 /// What the values so far make of a clause.
-#[derive(Clone, Copy)]
+#[derive(Clone, Copy, Debug, PartialEq, Eq)]
 pub enum Status {
     /// One of its literals holds.
     Satisfied,

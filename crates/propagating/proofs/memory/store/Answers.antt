@@ -1,26 +1,60 @@
-use Rattle.std.proofs.Common.{◌+◌, length, drop, refl, ap, ◌∙◌, arith, length-set}
+use Rattle.std.proofs.Common.{◌+◌, ◌-◌, ◌++◌, length, get_or, drop, replicate, refl, ap, ◌∙◌, arith, rules, length-set}
 use Rattle.clause.specs.Logic.{some_outside}
 use Rattle.clause.proofs.Inside.{inside_at}
+use Rattle.trail.specs.Cells.{empty_literal, empty_slot, heads_of}
+use Rattle.trail.proofs.Slots.{field_kept, link_value, link_entry}
 use Rattle.trail.proofs.Stores.{store_literal, store_head, store_literals, store_heads}
 use Rattle.propagating.proofs.memory.store.Goals as goal
 
-pub link-older-requires : goal.link-older-requires
-link-older-requires c =
-    let a = inside_at (length c.loop-i.slots) c.args.clause.now c.loop-i.i c.loop-i-test.true c.loop-i.invariant.2 in
-    (a.here.low, a.here.high)
+pub overflow_sub-literal : goal.overflow_sub-literal
+overflow_sub-literal c =
+    let a = inside_at (length c.loop-literal.slots) c.args.clause.now c.loop-literal.literal-index c.loop-literal-test.true c.loop-literal.invariant.2 in
+    let low = a.here.low in
+    search rules
 
-pub loop-i-preserved : goal.loop-i-preserved
-loop-i-preserved c =
-    let long = c.loop-i.auto.words ∙ length-set c.args.words.now c.args.used _ in
-    let a = inside_at (length c.loop-i.slots) c.args.clause.now c.loop-i.i c.loop-i-test.true c.loop-i.invariant.2 in (
-      store_literal c.loop-i.words (c.args.used + 1) c.loop-i.i _ c.args.clause.now _ (omega (arith, long, c.requires.room, c.loop-i-test.true)) c.loop-i-test.true refl c.loop-i.invariant.0,
-      store_head c.loop-i.words (c.args.used + 1) c.loop-i.i _ c.args.used _ (omega (arith, long, c.requires.room, c.loop-i-test.true)) refl c.loop-i.invariant.1,
-      ap (λ n. some_outside n (drop (c.loop-i.i + 1) c.args.clause.now)) c.link-older.auto.slots ∙ a.rest,
+pub bounds-slots-literal : goal.bounds-slots-literal
+bounds-slots-literal c =
+    let a = inside_at (length c.loop-literal.slots) c.args.clause.now c.loop-literal.literal-index c.loop-literal-test.true c.loop-literal.invariant.2 in
+    let high = a.here.high in
+    let low = a.here.low in
+    search rules
+
+pub offset_bounds-slots-literal : goal.offset_bounds-slots-literal
+offset_bounds-slots-literal c =
+    let a = inside_at (length c.loop-literal.slots) c.args.clause.now c.loop-literal.literal-index c.loop-literal-test.true c.loop-literal.invariant.2 in
+    let high = a.here.high in
+    let low = a.here.low in
+    search rules
+
+pub push_reserved-requires-in-loop-literal : goal.push_reserved-requires-in-loop-literal
+push_reserved-requires-in-loop-literal c = omega (arith, c.requires.room, c.loop-literal-test.true, c.loop-literal.invariant.3, c.loop-literal.invariant.4, c.push_reserved.ensures.len, c.push_reserved.ensures.capacity)
+
+pub loop-literal-preserved : goal.loop-literal-preserved
+loop-literal-preserved c =
+    let inv = c.loop-literal.invariant in
+    let i = c.loop-literal.literal-index in
+    let a = inside_at (length c.loop-literal.slots) c.args.clause.now i c.loop-literal-test.true inv.2 in
+    let pushed = c.push_reserved-in-loop-literal.ensures in
+    let l = get_or c.args.clause.now i empty_literal in
+    let place = l.variable - 1 in
+    let slot = get_or c.loop-literal.slots place empty_slot in (
+      store_literal _ c.loop-literal.words.items _ c.args.clause.now i _ pushed.items refl c.loop-literal-test.true inv.0,
+      store_head _ c.loop-literal.words.items _ c.len-head.result i _ pushed.items refl inv.1,
+      ap (λ n. some_outside n (drop (i + 1) c.args.clause.now)) (length-set c.loop-literal.slots place _) ∙ a.rest,
+      omega (arith, pushed.len, inv.3),
+      pushed.capacity ∙ inv.4,
+      field_kept (λ s. s.value) c.loop-literal.slots place _ _ (omega (arith, a.here.low, a.here.high)) (link_value slot c.link-older.new.self l.negated c.len.result c.link-older.ensures.linked) ∙ inv.5,
+      field_kept (λ s. s.entry) c.loop-literal.slots place _ _ (omega (arith, a.here.low, a.here.high)) (link_entry slot c.link-older.new.self l.negated c.len.result c.link-older.ensures.linked) ∙ inv.6,
     )
 
 pub returns : goal.returns
 returns c =
+    let inv = c.loop-literal.invariant in
+    let first = c.push_reserved.ensures in
     record {
-      literals = store_literals c.args.words.now c.loop-i.words c.args.used c.loop-i.i _ c.args.clause.now (omega (arith, c.requires.room)) refl c.loop-i-test.false c.loop-i.auto.i-end c.loop-i.invariant.0;
-      heads = store_heads c.args.words.now c.loop-i.words c.args.used c.loop-i.i _ (length c.args.clause.now) (omega (arith, c.requires.room)) refl c.loop-i-test.false c.loop-i.auto.i-end c.loop-i.invariant.1;
+      literals = store_literals _ _ _ _ c.args.clause.now c.loop-literal.literal-index first.items refl c.loop-literal-test.false inv.0;
+      heads = store_heads _ _ _ _ c.len-head.result c.loop-literal.literal-index (length c.args.clause.now) first.items refl (omega arith) inv.1 ∙ ap (λ u. heads_of c.args.words.now.items ++ replicate (1 + length c.args.clause.now) u) c.len-head.ensures;
+      room = inv.4 ∙ first.capacity;
+      values = inv.5;
+      entries = inv.6;
     }

@@ -1,16 +1,36 @@
 -- From the end of the trail to its beginning, until a decision.
-use Rattle.std.proofs.Common.{length, sym, ap, ◌∙◌, arith}
+use Rattle.std.proofs.Common.{◌≡◌, length, take, refl, sym, ap, ◌∙◌, arith, rules}
 use lib.ListN.{length-map}
+use Rattle.std.proofs.lemmas.List.{map-set}
 use Rattle.trail.specs.Cells.{entries_of}
+use Rattle.trail.specs.Trail.{written}
 use Rattle.trail.proofs.Memory.{taken_off, forced_more}
+use Rattle.trail.proofs.Slots.{field_kept}
 use Rattle.propagating.proofs.memory.undo.Goals as goal
 
-pub set_value-requires : goal.set_value-requires
-set_value-requires c =
+pub overflow_sub-entry : goal.overflow_sub-entry
+overflow_sub-entry c =
     let es = entries_of c.args.slots.now in
     let inv = c.loop-i.invariant in
     let t = taken_off (length c.args.slots.now) c.args.trail c.loop-i.i c.loop-i.slots es c.loop-i.auto.slots (length-map c.args.slots.now (λ s. s.entry)) c.requires.short c.loop-i.auto.i c.loop-i-test.true c.requires.fresh inv.0 inv.1 in
-    (t.low, omega (arith, t.high, c.loop-i.auto.slots))
+    let low = t.low in
+    search rules
+
+pub bounds-slots-entry : goal.bounds-slots-entry
+bounds-slots-entry c =
+    let es = entries_of c.args.slots.now in
+    let inv = c.loop-i.invariant in
+    let t = taken_off (length c.args.slots.now) c.args.trail c.loop-i.i c.loop-i.slots es c.loop-i.auto.slots (length-map c.args.slots.now (λ s. s.entry)) c.requires.short c.loop-i.auto.i c.loop-i-test.true c.requires.fresh inv.0 inv.1 in
+    omega (arith, t.low, t.high, c.loop-i.auto.slots)
+
+pub offset_bounds-slots-entry : goal.offset_bounds-slots-entry
+offset_bounds-slots-entry c =
+    let es = entries_of c.args.slots.now in
+    let inv = c.loop-i.invariant in
+    let t = taken_off (length c.args.slots.now) c.args.trail c.loop-i.i c.loop-i.slots es c.loop-i.auto.slots (length-map c.args.slots.now (λ s. s.entry)) c.requires.short c.loop-i.auto.i c.loop-i-test.true c.requires.fresh inv.0 inv.1 in
+    let low = t.low in
+    let high = t.high in
+    search rules
 
 pub returns-then-entry : goal.returns-then-entry
 returns-then-entry c =
@@ -18,12 +38,12 @@ returns-then-entry c =
     let inv = c.loop-i.invariant in
     let t = taken_off (length c.args.slots.now) c.args.trail c.loop-i.i c.loop-i.slots es c.loop-i.auto.slots (length-map c.args.slots.now (λ s. s.entry)) c.requires.short c.loop-i.auto.i c.loop-i-test.true c.requires.fresh inv.0 inv.1 in
     record {
-      entries = c.set_value.ensures.entries ∙ inv.0;
+      entries = field_kept (λ s. s.entry) c.loop-i.slots _ _ _ (omega (arith, t.low, t.high, c.loop-i.auto.slots)) refl ∙ inv.0;
       back = record {
         below = omega (arith, c.loop-i.auto.i, c.loop-i-test.true);
         decided = sym (ap (λ e. e.decided) t.is) ∙ c.if-entry.true;
         forced = λ j lo hi. inv.2 j (omega arith) hi;
-        written = c.set_value.ensures.values ∙ t.next;
+        written = map-set (λ s. s.value) c.loop-i.slots _ _ ∙ t.next;
       };
     }
 
@@ -32,4 +52,13 @@ loop-i-preserved c =
     let es = entries_of c.args.slots.now in
     let inv = c.loop-i.invariant in
     let t = taken_off (length c.args.slots.now) c.args.trail c.loop-i.i c.loop-i.slots es c.loop-i.auto.slots (length-map c.args.slots.now (λ s. s.entry)) c.requires.short c.loop-i.auto.i c.loop-i-test.true c.requires.fresh inv.0 inv.1 in
-    (c.set_value.ensures.entries ∙ inv.0, c.set_value.ensures.values ∙ t.next, forced_more es c.args.trail c.loop-i.i c.loop-i-test.true (sym (ap (λ e. e.decided) t.is) ∙ c.if-entry.false) inv.2)
+    (field_kept (λ s. s.entry) c.loop-i.slots _ _ _ (omega (arith, t.low, t.high, c.loop-i.auto.slots)) refl ∙ inv.0, map-set (λ s. s.value) c.loop-i.slots _ _ ∙ t.next, forced_more es c.args.trail c.loop-i.i c.loop-i-test.true (sym (ap (λ e. e.decided) t.is) ∙ c.if-entry.false) inv.2)
+
+pub returns : goal.returns
+returns c =
+    let inv = c.loop-i.invariant in
+    let none : c.loop-i.i ≡ 0 = omega arith in
+    record {
+      entries = inv.0;
+      back = (λ i h. inv.2 i (omega arith) h, inv.1 ∙ ap (λ k. written (length c.args.slots.now) (take k (entries_of c.args.slots.now))) none);
+    }

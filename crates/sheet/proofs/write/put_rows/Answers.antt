@@ -11,9 +11,8 @@ pub loop-i-preserved : goal.loop-i-preserved
 loop-i-preserved g c =
     let i = c.loop-i.i in (
       λ text h.
-          let turn = rows_turn text c.args.into.now c.loop-i.into c.args.at i c.args.items.now c.index-items-i.result c.row_of.result c.requires.room
-          c.loop-i-test.true c.index-items-i.is (omega arith) (h i _ c.row_of.result c.loop-i-test.true c.row_of.ensures) (c.loop-i.invariant.0 text h) in
-          (c.put_row.ensures ∙ turn.0, turn.1),
+          rows_turn text c.args.into.now c.loop-i.into _ c.args.at i c.args.items.now c.index-items-i.result c.row_of.result c.put_row.ensures c.requires.room
+          c.loop-i-test.true c.index-items-i.is (omega arith) (h i _ c.row_of.result c.loop-i-test.true c.row_of.ensures) (c.loop-i.invariant.0 text h),
       omega (arith, c.put_row.auto.into, c.loop-i.invariant.1),
     )
 
