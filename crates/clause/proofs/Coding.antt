@@ -1,9 +1,8 @@
 -- Clauses in memory: what was written is read again, clause by clause and at every head.
-use Rattle.std.proofs.Common.{◌≡◌, ℕ, zero, suc, ◌+◌, ◌-◌, ◌<◌, ◌≤◌, Bool, true, false, cond, eqb, ltb, List, [], ◌∷◌, ◌++◌, map, length, get_or, take, drop, sym, refl, ap, ◌∙◌, append_assoc, append-nil, add-one, arith, length-append, length-drop, drop-cons, drop-drop, take_at, drop_at, ltb-false, le-ltb, ne_eqb, eqb-true}
+use Rattle.std.proofs.Common.{◌≡◌, ℕ, zero, suc, ◌+◌, ◌-◌, ◌<◌, ◌≤◌, Bool, true, false, cond, eqb, ltb, List, [], ◌∷◌, ◌++◌, length, get_or, take, drop, sym, refl, ap, ◌∙◌, append_assoc, append-nil, add-one, arith, length-append, length-drop, drop-cons, drop-drop, take_at, drop_at, ltb-false, le-ltb, ne_eqb, eqb-true}
 use borrow.Author.Tests.{both_ways}
-use Rattle.std.proofs.lemmas.List.{drop_all}
 use Rattle.clause.specs.Logic.{Clause, clause_holds, all_hold, words, some_outside, all_inside}
-use Rattle.clause.specs.Memory.{head, encode, decode, clauses_of, is_head, Begins, parts_of}
+use Rattle.clause.specs.Memory.{head, encode, decode, clauses_of, is_head, Begins}
 use Rattle.clause.specs.declared.literal.Literal.{Literal}
 use Rattle.clause.proofs.Inside.{no_literal, both_true, all_true}
 
@@ -36,10 +35,6 @@ front ws at (c ∷ cs) h e =
       goes_on = sym (drop-drop (length c) (at + 1) ws) ∙ ap (drop (length c)) tail' ∙ drop_at c (encode cs) (length c) refl;
       fits = omega (arith, length-drop (at + 1) ws);
     }
-
-pub ends_empty : (ws : List Literal) (at : ℕ) (rest : List Clause) → length ws ≤ at → drop at ws ≡ encode rest → rest ≡ []
-ends_empty ws at [] h e = refl
-ends_empty ws at (c ∷ cs) h e = let l : length (encode (c ∷ cs)) ≡ 0 = sym (ap length e) ∙ ap length (drop_all at ws h) in absurd (omega arith)
 
 -- What memory holds comes back.
 decode_encode : (cs : List Clause) (k : ℕ) → length (encode cs) ≤ k → decode k (encode cs) ≡ cs
@@ -137,14 +132,3 @@ head_last (d ∷ cs) c =
     let not_first : eqb (length d + 1 + words cs) 0 ≡ false = ne_eqb _ _ (λ z. omega arith) in
     let back : length d + 1 + words cs - (length d + 1) ≡ words cs = omega arith in
     rw (not_first, far) (ap (is_head (cs ++ (c ∷ []))) back ∙ head_last cs c)
-
--- Literals are equal where their parts are.
-abbrev literals_from : List (ℕ × Bool) → List Literal
-literals_from ps = map (λ p. record { variable = p.0; negated = p.1 }) ps
-
-from_parts : (ls : List Literal) → literals_from (parts_of ls) ≡ ls
-from_parts [] = refl
-from_parts (l ∷ ls) = ap (λ x. l ∷ x) (from_parts ls)
-
-pub same_literals : (ls ms : List Literal) → parts_of ls ≡ parts_of ms → ls ≡ ms
-same_literals ls ms e = sym (from_parts ls) ∙ ap literals_from e ∙ from_parts ms

@@ -1,4 +1,3 @@
 pub mod Chains
 pub mod Inside
 pub mod Coding
-pub mod Vectors

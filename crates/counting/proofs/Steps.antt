@@ -1,9 +1,9 @@
 -- What a step comes to: the row holds, or one row more has failed.
-use Rattle.std.proofs.Common.{◌≡◌, ℕ, ◌-◌, ◌^◌, ◌<◌, Bool, true, false, List, ◌++◌, map, length, take, drop, replicate, sym, refl, ap, ◌∙◌, subst, arith, take_at}
+use Rattle.std.proofs.Common.{◌≡◌, ℕ, ◌-◌, ◌^◌, ◌<◌, Bool, true, false, List, [], ◌∷◌, ◌++◌, map, if◌then◌else◌, append_assoc, length, take, drop, replicate, sym, refl, ap, ◌∙◌, subst, arith, take_at}
 use borrow.Author.Tests.{both_ways}
 use Rattle.std.proofs.lemmas.List.{map-id}
 use Rattle.clause.specs.Logic.{Row, Clause, all_hold}
-use Rattle.clause.specs.Memory.{clauses_of}
+use Rattle.clause.specs.Memory.{head, clauses_of}
 use Rattle.clause.specs.declared.literal.Literal.{Literal}
 use Rattle.engine.specs.Calls.{Seeks}
 use Rattle.engine.specs.View.{owed_in}
@@ -23,6 +23,11 @@ idle_tried row cs r x = let z : ◌≡◌ {A = ℕ} 0 1 = cc x.0 in absurd (omeg
 -- the first row: none is before it
 pub none_before : (row : Row) (n : ℕ) (cs : List Clause) → row ≡ replicate n false → Tried Searching row cs
 none_before row n cs e r x = let zero_row = ap number e ∙ number_first n in absurd (omega (arith, x.1.less))
+
+-- a clause put last: its head was pushed, and its literals appended, where there was room
+pub put_last : (room : Bool) (ws pushed new : List Literal) (c : Clause) → room ≡ true → pushed ≡ ws ++ (head (length c) ∷ []) → new ≡ (if room then pushed ++ c else pushed)
+    → new ≡ ws ++ (head (length c) ∷ c)
+put_last room ws pushed new c r p n = n ∙ ap (λ b. if b then pushed ++ c else pushed) r ∙ ap (λ x. x ++ c) p ∙ append_assoc ws (head (length c) ∷ []) c
 
 -- a memory of literals holds those literals
 pub as_held : (row : Row) (words held : List Literal) (t : Bool) → held ≡ words → t ≡ all_hold row (clauses_of (map (λ l. l) held)) → t ≡ all_hold row (clauses_of words)

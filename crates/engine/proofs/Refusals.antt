@@ -5,8 +5,8 @@ use Rattle.engine.specs.declared.types.Places.{Places}
 use Rattle.clause.specs.Logic.{Row, Clause, words, some_outside}
 use Rattle.engine.specs.Calls.{refuse_if, growth_refusal, addition_refusal, add_refusal, step_refusal, step_limit}
 use Rattle.engine.specs.Search.{run_refusal}
-use Rattle.engine.specs.View.{View, is_searching, has_model}
-use Rattle.engine.specs.Phases.{state_in, in_search, at_model}
+use Rattle.engine.specs.View.{View, is_searching}
+use Rattle.engine.specs.Phases.{state_in, in_search}
 use Rattle.engine.specs.declared.types.Phase.{Phase}
 use Rattle.engine.specs.declared.types.Phase.TheVariants.{Idle, Searching, Model, Unsatisfiable}
 
@@ -25,12 +25,6 @@ searching_in Idle debt row = refl
 searching_in Searching debt row = refl
 searching_in Model debt row = refl
 searching_in Unsatisfiable debt row = refl
-
-pub model_in : (p : Phase) (debt : ℕ) (row : Row) → has_model (state_in p debt row) ≡ at_model p
-model_in Idle debt row = refl
-model_in Searching debt row = refl
-model_in Model debt row = refl
-model_in Unsatisfiable debt row = refl
 
 -- what holds where a test lets a call pass
 passes : (test : Bool) (x : Refusal) (rest : Option Refusal) → refuse_if test x rest ≡ None → (test ≡ false) × (rest ≡ None)

@@ -1,6 +1,5 @@
 // A field: five columns, blank or a number with spaces before it.
-ghost use Rattle.std.specs.Prelude.{◌≡◌, ℕ, ◌-◌, ◌<◌, Some, None};
-ghost use Rattle.std.specs.Str.{bytes_eq};
+ghost use Rattle.std.specs.Prelude.{◌≡◌, ◌-◌, ◌<◌, Some};
 ghost use Rattle.layout.specs.Text.{column, columns, decoded, field_value};
 
 use refusal::refusal::Refusal;

@@ -1,7 +1,6 @@
 // A row: a letter, numbers in the first fields, the others blank, and a line feed.
 ghost use Rattle.std.specs.Prelude.{◌≡◌};
-ghost use Rattle.std.specs.List.{slice_get};
-ghost use Rattle.layout.specs.Text.{columns, row_text, fault_text};
+ghost use Rattle.layout.specs.Text.{row_text, fault_text};
 
 use crate::field::field_columns;
 use refusal::fault::Fault;

@@ -2,7 +2,7 @@
 ghost use Rattle.std.specs.Prelude.{◌≡◌, ◌&&◌, nat_le};
 
 /// The numbers that a field may hold, from the lowest to the highest.
-#[derive(Clone, Copy, Debug)]
+#[derive(Clone, Copy, Debug, PartialEq, Eq)]
 pub struct Bounds {
     pub low: u32,
     pub high: u32,
@@ -19,7 +19,7 @@ impl Bounds {
 
 /// The first `needed` fields are filled, those after the first `allowed` are blank, and no blank field stands before a
 /// filled one. A number in field j, counted from 0, is within `bounds[j]`.
-#[derive(Clone, Copy, Debug)]
+#[derive(Clone, Copy, Debug, PartialEq, Eq)]
 pub struct Shape {
     pub needed: usize,
     pub allowed: usize,

@@ -11,9 +11,8 @@ use Rattle.circuit.specs.Gates.{own_rows}
 use Rattle.sheet_format.specs.Shapes.{highest, gate_shape}
 use Rattle.sheet_format.specs.Decoding.{letter, fields_of, filled, numbers, kind_named, kind_in, gate_in, gate_from}
 use Rattle.sheet_format.specs.FirstFault.{fields_fault, row_fault, gate_fault, names_gate}
-use Rattle.sheet_format.proofs.Bounds.{input_bounds}
+use Rattle.sheet_format.proofs.OfKinds.{input_bounds, takes}
 use Rattle.sheet_format.proofs.SoundFields.{fields_passed}
-use Rattle.sheet_format.proofs.SoundRows.{takes}
 use Rattle.sheet.specs.Parts.{options, GateFields}
 use Rattle.sheet.proofs.Fields.{by_fields}
 use Rattle.sheet.proofs.Told.{options_are}

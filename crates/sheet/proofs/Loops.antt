@@ -2,7 +2,7 @@
 use Rattle.std.proofs.Common.{◌≡◌, ℕ, zero, suc, ◌+◌, ◌-◌, ◌*◌, ◌/◌, ◌%◌, ◌<◌, ◌≤◌, Bool, true, false, cond, ◌≢◌, List, [], ◌∷◌, ◌++◌, map, length, get_or, take, drop, set, is_some, Some, None, Option, sym, refl, ap, ◌∙◌, subst, add-zero, add-suc, add-one, arith, drop-drop, below_more}
 use mir.Val.{bool_byte}
 use Rattle.std.specs.Simd.{first_chunks}
-use Rattle.std.proofs.lemmas.List.{take_all, take_more, map-append, length-set, length-take, length-drop, get_or-set_same, get_or-set_other}
+use Rattle.std.proofs.lemmas.List.{take_more, map-append, length-set, length-take, length-drop, get_or-set_same, get_or-set_other}
 use Rattle.std.proofs.lemmas.List.FromFn.{fill_by_all}
 use Rattle.refusal.specs.declared.fault.Fault.{Fault}
 use Rattle.refusal.specs.declared.role.Role.{Role}
@@ -14,7 +14,7 @@ use Rattle.layout.specs.declared.shape.Shape.{Shape}
 use Rattle.layout.specs.Text.{blank}
 use Rattle.sheet_format.specs.Decoding.{field, fields_of, filled_below, gate_in}
 use Rattle.sheet_format.specs.FirstFault.{first_below, at_row, field_fault, fields_fault, gate_fault, output_fault}
-use Rattle.sheet.specs.Parts.{IsRows, field_option, options, gates_fault_in, outputs_fault_in, net_in}
+use Rattle.sheet.specs.Parts.{IsRows, field_option, options, gates_fault_in, net_in}
 
 -- chunk j of a text
 pub chunk_at : (n k : ℕ) (t : List ℕ) (j : ℕ) (d : List ℕ) → j < k → get_or (first_chunks n k t) j d ≡ take n (drop (n * j) t)

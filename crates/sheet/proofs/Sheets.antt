@@ -1,6 +1,6 @@
 -- The first fault of a sheet, look by look, as the reader comes to it; and what a sheet without a fault gives.
 use Rattle.std.proofs.Common.{◌≡◌, ℕ, zero, suc, ◌+◌, ◌*◌, ◌-◌, ◌%◌, ◌<◌, ◌≤◌, Bool, true, false, eqb, ltb, List, [], ◌++◌, map, get_or, length, take, drop, Some, None, Ok, Err, vec_items, vec_len, Option, Result, sym, refl, ap, ◌∙◌, subst, arith, MatchResult}
-use Rattle.std.proofs.lemmas.Bool.{and_from, lt-ltb, eq-eqb, and_parts, ltb-true, leb-true, eqb-true}
+use Rattle.std.proofs.lemmas.Bool.{false_from_ne_true, and_from, lt-ltb, eq-eqb, and_parts, ltb-true, leb-true, eqb-true}
 use Rattle.std.proofs.lemmas.Bool.Decides.{nat_tests}
 use Rattle.std.proofs.lemmas.List.{length-append, length-map, length-take, length-drop, get_or-map, get_or-take, get_or-drop, take_all, take_rest}
 use Rattle.std.proofs.lemmas.List.FromFn.{fill_by_all}
@@ -25,10 +25,6 @@ use Rattle.sheet_format.proofs.CompleteRows.{length_rows}
 use Rattle.sheet.specs.declared.parts.Header.{Header}
 use Rattle.sheet.specs.Parts.{Headed, IsRows, gates_fault_in, outputs_fault_in, net_in}
 use Rattle.sheet.specs.Answers.{SheetRead}
-
-not_true_false : (b : Bool) → (b ≡ true → ⊥) → b ≡ false
-not_true_false true h = absurd (h refl)
-not_true_false false h = refl
 
 -- some rows of a text, from row o on
 abbrev Part : List ℕ → ℕ → List (List ℕ) → Type 0
@@ -92,7 +88,7 @@ module _ (role : Role) (t : List ℕ) where
   pub no_length : ((0 < length t) × (length t % 32 ≡ 0) → ⊥) → sheet_fault role t ≡ Some (fault_at Length 0)
   unfolding sheet_fault
   no_length h =
-      let e : whole_rows t ≡ false = not_true_false (whole_rows t) (λ e. let p = and_parts (ltb 0 (length t)) (eqb (length t % 32) 0) e in h (ltb-true _ _ p.0, eqb-true _ _ p.1)) in
+      let e : whole_rows t ≡ false = false_from_ne_true (whole_rows t) (λ e. let p = and_parts (ltb 0 (length t)) (eqb (length t % 32) 0) e in h (ltb-true _ _ p.0, eqb-true _ _ p.1)) in
       rw e
 
   -- the length is right
@@ -183,7 +179,7 @@ pub lawful_is : (role : Role) (t : List ℕ) (s : Sheet) → sheet_fault role t 
 lawful_is role t s e p = subst Lawful (sym p) (sound role t e).lawful
 
 none_or_some : {X : Type 0} (o : Option X) (x : X) → o ≡ None → o ≡ Some x → ⊥
-none_or_some o x p q = let z : ◌≡◌ {A = ℕ} 0 1 = cc in omega arith
+none_or_some o x p q = cc
 
 -- so reading a sheet alone answers the one circuit whose rows the bytes are
 pub reads_alone : (t : List ℕ) (r : Result Circuit Fault) →

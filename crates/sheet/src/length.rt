@@ -1,5 +1,5 @@
 // How many bytes a circuit's rows take.
-ghost use Rattle.std.specs.Prelude.{◌≡◌, ◌+◌, ◌≤◌, length};
+ghost use Rattle.std.specs.Prelude.{◌≡◌, ◌≤◌, length};
 ghost use Rattle.circuit.specs.View.{drawn};
 ghost use Rattle.sheet_format.specs.Rows.{rows, pair_rows};
 

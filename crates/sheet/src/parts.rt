@@ -1,12 +1,11 @@
 // The rows of a sheet by what they say: its header, a gate, an output.
-ghost use Rattle.std.specs.Prelude.{◌≡◌, ℕ, List, IsSomeAnd, ◌+◌, ◌*◌, ◌<◌, ◌≤◌, true, false, cond, length, Some, None, MatchResult, slice_index};
+ghost use Rattle.std.specs.Prelude.{◌≡◌, ℕ, List, IsSomeAnd, ◌+◌, ◌≤◌, true, false, Some, None, MatchResult};
 ghost use Rattle.refusal.specs.Faults.{fault_at};
 ghost use Rattle.refusal.specs.declared.refusal.Refusal.TheVariants.{Letter};
 ghost use Rattle.circuit.specs.Gates.{own_rows};
-ghost use Rattle.circuit.specs.Kinds.{all_kinds, kind_among};
 ghost use Rattle.sheet_format.specs.Shapes.{header_shape, gate_shape, output_shape};
 ghost use Rattle.sheet_format.specs.Decoding.{number, fields_of, kind_named, gate_in, gate_from};
-ghost use Rattle.sheet_format.specs.FirstFault.{header_fault, gate_fault, output_fault, names_gate, may_stand};
+ghost use Rattle.sheet_format.specs.FirstFault.{header_fault, gate_fault, output_fault, names_gate};
 ghost use Rattle.sheet.specs.Parts.{GateFields, Headed};
 
 use crate::rows::{Fields, read_fields, read_letter, read_lettered};

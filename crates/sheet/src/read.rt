@@ -1,5 +1,5 @@
 // Sheets and pairs, read from their bytes.
-ghost use Rattle.std.specs.Prelude.{◌≡◌, ℕ, ◌+◌, ◌*◌, ◌%◌, ◌<◌, ◌≤◌, true, false, [], length, map, Some, None, vec_len, vec_capacity, MatchResult};
+ghost use Rattle.std.specs.Prelude.{◌≡◌, ◌+◌, ◌%◌, ◌<◌, ◌≤◌, true, false, [], length, map, Some, None, vec_len, vec_capacity, MatchResult};
 ghost use Rattle.refusal.specs.Faults.{fault_at};
 ghost use Rattle.refusal.specs.declared.refusal.Refusal.TheVariants.{Length, RowCount};
 ghost use Rattle.circuit.specs.View.{drawn};

@@ -1,9 +1,8 @@
 // Circuits and pairs, written as their rows.
-ghost use Rattle.std.specs.Prelude.{◌≡◌, ℕ, ◌+◌, ◌*◌, ◌<◌, ◌≤◌, List, [], ◌∷◌, length};
+ghost use Rattle.std.specs.Prelude.{◌≡◌, ℕ, ◌+◌, ◌*◌, ◌<◌, ◌≤◌, List, length};
 ghost use Rattle.std.specs.Borrow.{Bor};
 ghost use Rattle.circuit.specs.View.{drawn};
-ghost use Rattle.layout.specs.Text.{row_text};
-ghost use Rattle.sheet_format.specs.Rows.{rows, pair_rows, header_text, gate_text, gate_texts, output_text, output_texts};
+ghost use Rattle.sheet_format.specs.Rows.{rows, pair_rows, gate_text, output_text};
 ghost use Rattle.sheet.specs.Written.{laid, texts, Written};
 
 use crate::length::{pair_length, sheet_length};
@@ -45,14 +44,14 @@ fn put_row(into: &mut [u8], at: usize, row: Row)
     into[at..at + 32].copy_from_slice(&row);
 }
 
-/// Puts the rows of some items, each with its number among them.
-fn put_rows<T, F: Fn(usize, &T) -> Row>(into: &mut [u8], at: usize, items: &[T], row_of: F)
-    requires room { at + 32 * length items.now ≤ length into.old }
+/// Puts the rows of some items at a buffer's front, each by the item's number among them.
+fn put_rows<T, F: Fn(usize, &T) -> Row>(into: &mut [u8], items: &[T], row_of: F)
+    requires room { 32 * length items.now ≤ length into.old }
     requires callable { (i : ℕ) (x : Bor T) → i < length items.now → F.pre row_of i x }
-    ensures { (text : ℕ → T → List ℕ) → ((i : ℕ) (x : Bor T) (r : _) → i < length items.now → F.post row_of i x r → r ≡ text i x.now) → into.new ≡ laid into.old at (texts text 0 items.now) }
+    ensures { (text : ℕ → T → List ℕ) → ((i : ℕ) (x : Bor T) (r : _) → i < length items.now → F.post row_of i x r → r ≡ text i x.now) → into.new ≡ laid into.old 0 (texts text 0 items.now) }
 {
     for (i, item) in items.iter().enumerate() {
-        put_row(into, at + 32 * i, row_of(i, item));
+        put_row(into, 32 * i, row_of(i, item));
     }
 }
 
@@ -64,10 +63,10 @@ trait InRows {
     fn length(&self) -> usize
         ensures { result ≡ length (text self.now) };
 
-    /// Puts the rows at that place.
-    fn put(&self, into: &mut [u8], at: usize)
-        requires { at + length (text self.now) ≤ length into.old }
-        ensures { into.new ≡ laid into.old at (text self.now) };
+    /// Puts the rows at a buffer's front.
+    fn put(&self, into: &mut [u8])
+        requires { length (text self.now) ≤ length into.old }
+        ensures { into.new ≡ laid into.old 0 (text self.now) };
 }
 
 impl InRows for Circuit {
@@ -77,16 +76,15 @@ impl InRows for Circuit {
         sheet_length(self)
     }
 
-    fn put(&self, into: &mut [u8], at: usize) {
+    fn put(&self, into: &mut [u8]) {
         let gates = self.gates.as_slice();
         let outputs = self.outputs.as_slice();
         let inputs = u32::from(self.inputs);
         let header = [inputs, gates.len() as u32, outputs.len() as u32];
-        put_row(into, at, row_text(b'H', &header));
-        let (below, own) = (at + 32, inputs + 1);
+        put_row(into, 0, row_text(b'H', &header));
+        let own = inputs + 1;
         put_rows(
-            into,
-            below,
+            &mut into[32..],
             gates,
             |i, gate|
                 requires { own + i < 1000 }
@@ -94,8 +92,7 @@ impl InRows for Circuit {
             { gate_row(own + i as u32, *gate) },
         );
         put_rows(
-            into,
-            below + 32 * gates.len(),
+            &mut into[32 + 32 * gates.len()..],
             outputs,
             |_, net|
                 ensures { result ≡ output_text net.now }
@@ -111,10 +108,10 @@ impl InRows for Pair {
         pair_length(self)
     }
 
-    fn put(&self, into: &mut [u8], at: usize) {
-        self.target.put(into, at);
+    fn put(&self, into: &mut [u8]) {
+        self.target.put(into);
         self.specification
-            .put(into, at + sheet_length(&self.target));
+            .put(&mut into[sheet_length(&self.target)..]);
     }
 }
 
@@ -126,7 +123,7 @@ fn write<T: InRows>(item: &T, into: &mut [u8]) -> Result<usize, Refusal>
     if into.len() < length {
         return Err(Refusal::TooShort);
     }
-    item.put(into, 0);
+    item.put(into);
     Ok(length)
 }
 

@@ -26,7 +26,7 @@ pub use Rattle.sheet_format.proofs.CompleteRows.{length_rows}
 
 -- the rows of a gate and of those before it are among all rows
 rows_within : (gs : List Gate) (i : ℕ) → i < length gs → total_rows (take i gs) + own_rows (gate_at gs i) ≤ total_rows gs
-rows_within [] i h = let no : ⊥ = omega arith in elim no [ ]
+rows_within [] i h = absurd (omega arith)
 rows_within (g ∷ gs) zero h = omega arith
 rows_within (g ∷ gs) (suc i) h = omega (arith, rows_within gs i (omega arith))
 
@@ -34,10 +34,10 @@ rows_within (g ∷ gs) (suc i) h = omega (arith, rows_within gs i (omega arith))
 plain_stands : (g : Gate) → own_rows g ≡ 0 → may_stand Specification (kind_of g) ≡ true
 plain_stands (Unary u a) h = refl
 plain_stands (Binary o a b) h = refl
-plain_stands (Table (One a)) h = let no : ⊥ = omega arith in elim no [ ]
-plain_stands (Table (Two a b)) h = let no : ⊥ = omega arith in elim no [ ]
-plain_stands (Table (Three a b c)) h = let no : ⊥ = omega arith in elim no [ ]
-plain_stands (Table (Four a b c d)) h = let no : ⊥ = omega arith in elim no [ ]
+plain_stands (Table (One a)) h = absurd (omega arith)
+plain_stands (Table (Two a b)) h = absurd (omega arith)
+plain_stands (Table (Three a b c)) h = absurd (omega arith)
+plain_stands (Table (Four a b c d)) h = absurd (omega arith)
 
 gate_stands : (role : Role) (s : Sheet) (i : ℕ) → Suits role s → i < length s.gates
     → may_stand role (kind_of (gate_at s.gates i)) ≡ true
@@ -49,7 +49,7 @@ three : (P : ℕ → Type 0) → P 0 → P 1 → P 2 → (j : ℕ) → j < 3 →
 three P a b c zero h = a
 three P a b c (suc zero) h = b
 three P a b c (suc (suc zero)) h = c
-three P a b c (suc (suc (suc j))) h = let no : ⊥ = omega arith in elim no [ ]
+three P a b c (suc (suc (suc j))) h = absurd (omega arith)
 
 whole_follow : (role : Role) (rest : List ℕ) → MayFollow role rest → length rest % 32 ≡ 0
 whole_follow Alone rest h = ap (λ t. length t % 32) h

@@ -39,7 +39,7 @@ row_holds l ns (suc (suc zero)) h = refl
 row_holds l ns (suc (suc (suc zero))) h = refl
 row_holds l ns (suc (suc (suc (suc zero)))) h = refl
 row_holds l ns (suc (suc (suc (suc (suc zero))))) h = refl
-row_holds l ns (suc (suc (suc (suc (suc (suc j)))))) h = let no : ⊥ = omega arith in elim no [ ]
+row_holds l ns (suc (suc (suc (suc (suc (suc j)))))) h = absurd (omega arith)
 
 module _ (text ns : List ℕ) (holds : Holds text ns) where
   field_filled : (j : ℕ) → j < 6 → j < length ns → field j text ≡ columns (Some (get_or ns j 0))

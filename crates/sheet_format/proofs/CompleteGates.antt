@@ -18,7 +18,7 @@ use Rattle.sheet_format.specs.Rows.{gate_text, output_text}
 use Rattle.sheet_format.specs.Shapes.{lowest, highest, gate_shape, output_shape}
 use Rattle.sheet_format.specs.Decoding.{fields_of, filled, number, numbers, gate_from, kind_named, gate_in}
 use Rattle.sheet_format.specs.FirstFault.{names_gate, may_stand, gate_fault, output_fault, row_fault, unless}
-use Rattle.sheet_format.proofs.Bounds.{input_bounds}
+use Rattle.sheet_format.proofs.OfKinds.{input_bounds, numbers_at, unary_takes, binary_takes}
 use Rattle.sheet_format.proofs.CompleteFields.{Suiting, row_holds, number_holds, filled_below_holds, row_none, or_none}
 
 -- a kind is found by its letter
@@ -38,14 +38,8 @@ kind_back k = ap (λ x. unwrap_or x kinds.TheVariants.Table) (kind_found k)
 
 -- a gate has as many inputs as its kind takes
 pub inputs_counted : (g : Gate) → (fewest_inputs (kind_of g) ≤ length (nets g)) × (length (nets g) ≤ most_inputs (kind_of g)) × (length (nets g) ≤ 4)
-inputs_counted (Unary Buffer a) = (omega arith, omega arith, omega arith)
-inputs_counted (Unary Inverter a) = (omega arith, omega arith, omega arith)
-inputs_counted (Binary And a b) = (omega arith, omega arith, omega arith)
-inputs_counted (Binary Or a b) = (omega arith, omega arith, omega arith)
-inputs_counted (Binary Xor a b) = (omega arith, omega arith, omega arith)
-inputs_counted (Binary Nand a b) = (omega arith, omega arith, omega arith)
-inputs_counted (Binary Nor a b) = (omega arith, omega arith, omega arith)
-inputs_counted (Binary Xnor a b) = (omega arith, omega arith, omega arith)
+inputs_counted (Unary u a) = let n = unary_takes u in (omega arith, omega arith, omega arith)
+inputs_counted (Binary o a b) = let n = binary_takes o in (omega arith, omega arith, omega arith)
 inputs_counted (Table (One a)) = (omega arith, omega arith, omega arith)
 inputs_counted (Table (Two a b)) = (omega arith, omega arith, omega arith)
 inputs_counted (Table (Three a b c)) = (omega arith, omega arith, omega arith)
@@ -61,16 +55,6 @@ gate_back own (Table (Two a b)) ns h = λ i. Table (Two (h 1 (omega arith) i) (h
 gate_back own (Table (Three a b c)) ns h = λ i. Table (Three (h 1 (omega arith) i) (h 2 (omega arith) i) (h 3 (omega arith) i))
 gate_back own (Table (Four a b c d)) ns h =
     λ i. Table (Four (h 1 (omega arith) i) (h 2 (omega arith) i) (h 3 (omega arith) i) (h 4 (omega arith) i))
-
--- the numbers as they are listed
-numbers_at : (text : List ℕ) (j : ℕ) → j < 6 → get_or (numbers text) j 0 ≡ number j text
-numbers_at text zero h = refl
-numbers_at text (suc zero) h = refl
-numbers_at text (suc (suc zero)) h = refl
-numbers_at text (suc (suc (suc zero))) h = refl
-numbers_at text (suc (suc (suc (suc zero)))) h = refl
-numbers_at text (suc (suc (suc (suc (suc zero))))) h = refl
-numbers_at text (suc (suc (suc (suc (suc (suc j)))))) h = let no : ⊥ = omega arith in elim no [ ]
 
 module _ (own : ℕ) (g : Gate) (small : (j : ℕ) → j < length (own ∷ nets g) → get_or (own ∷ nets g) j 0 < 100000) where
   pub gate_read : gate_in (gate_text own g) ≡ g
@@ -134,7 +118,7 @@ output_same net small = number_holds (fields_of (output_text net)) (net ∷ []) 
 
 only : (P : ℕ → Type 0) → P 0 → (j : ℕ) → j < 1 → P j
 only P h zero l = h
-only P h (suc j) l = let no : ⊥ = omega arith in elim no [ ]
+only P h (suc j) l = absurd (omega arith)
 
 pub output_none : (n net : ℕ) → Net n net → n < 100000 → output_fault n (output_text net) ≡ None
 output_none n net h small =

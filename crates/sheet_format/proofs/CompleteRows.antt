@@ -29,7 +29,7 @@ length_rows s =
 
 gate_row : (own : ℕ) (gs : List Gate) (rest : List ℕ) (i : ℕ) → i < length gs
     → row_at (gate_texts own gs ++ rest) i ≡ gate_text (own + i) (gate_at gs i)
-gate_row own [] rest i h = let no : ⊥ = omega arith in elim no [ ]
+gate_row own [] rest i h = absurd (omega arith)
 gate_row own (g ∷ gs) rest zero h = let e : own ≡ own + 0 = omega arith in ap (λ n. gate_text n g) e
 gate_row own (g ∷ gs) rest (suc i) h =
     let e : own + 1 + i ≡ own + suc i = omega arith in
@@ -37,7 +37,7 @@ gate_row own (g ∷ gs) rest (suc i) h =
     ∙ gate_row (own + 1) gs rest i (omega arith) ∙ ap (λ n. gate_text n (gate_at gs i)) e
 
 output_row : (qs rest : List ℕ) (j : ℕ) → j < length qs → row_at (output_texts qs ++ rest) j ≡ output_text (get_or qs j 1)
-output_row [] rest j h = let no : ⊥ = omega arith in elim no [ ]
+output_row [] rest j h = absurd (omega arith)
 output_row (q ∷ qs) rest zero h = refl
 output_row (q ∷ qs) rest (suc j) h = row_from (output_texts (q ∷ qs) ++ rest) 1 j (suc j) (omega arith) ∙ output_row qs rest j (omega arith)
 

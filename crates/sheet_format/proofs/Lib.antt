@@ -1,5 +1,5 @@
 pub mod Read
-pub mod Bounds
+pub mod OfKinds
 pub mod SoundLooks
 pub mod SoundFields
 pub mod SoundRow

@@ -4,15 +4,15 @@ use Rattle.std.specs.List.{slice_get}
 use Rattle.std.proofs.lemmas.Slice.Eq.{bytes_eq-Decides}
 use Rattle.std.proofs.lemmas.Bool.{cases_lt, and_parts, leb-true, ltb-true, eqb-true}
 use Rattle.std.proofs.lemmas.List.{length-take, get_or-take}
-use Rattle.std.proofs.lemmas.List.FromFn.{get_or-map-range_with_len}
 use Rattle.std.proofs.lemmas.Option.{slice_get-get_or, slice_get_past}
 use Rattle.refusal.specs.declared.refusal.Refusal.TheVariants.{FieldForm, FieldRange}
 use Rattle.refusal.specs.Faults.{fault_at}
 use Rattle.layout.specs.declared.shape.Shape.{Shape}
 use Rattle.layout.specs.Text.{columns, decoded, blank, numeral}
 use Rattle.sheet_format.specs.Shapes.{lowest, highest}
-use Rattle.sheet_format.specs.Decoding.{field, number, numbers, filled_below, filled}
+use Rattle.sheet_format.specs.Decoding.{field, numbers, filled_below, filled}
 use Rattle.sheet_format.specs.FirstFault.{unless, well_formed, in_range, field_fault, fields_fault}
+use Rattle.sheet_format.proofs.OfKinds.{numbers_at}
 use Rattle.sheet_format.proofs.SoundLooks.{all_passed, test_passed, each_passed}
 
 -- a filled field: k fields before it are filled, which are all before it
@@ -111,9 +111,6 @@ nth_front xs k j d l m =
 
 nth_beyond : (xs : List ℕ) (k j : ℕ) → k ≤ j → slice_get (take k xs) j ≡ None
 nth_beyond xs k j l = slice_get_past (take k xs) j (simp length-take (omega arith))
-
-numbers_at : (text : List ℕ) (j : ℕ) → j < 6 → get_or (numbers text) j 0 ≡ number j text
-numbers_at text j l = get_or-map-range_with_len (λ i. number i text) 0 6 j j 0 l (omega arith)
 
 holds : (s : Shape) (text : List ℕ) (k : ℕ) → k ≤ 6
     → ((i : ℕ) → i < 6 → ((i < k) × Filled s i (filled_below i text) (field i text)) ⊎ ((k ≤ i) × Empty s i (field i text)))

@@ -7,7 +7,7 @@ use Rattle.sheet_format.specs.FirstFault.{unless, or_else, first, first_below}
 
 -- a look that found something did not find nothing
 found : {P : Type 0} {A : Type 0} (x : A) → Some x ≡ None → P
-found x e = let no : ◌≡◌ {A = ℕ} 0 1 = cc in absurd (omega arith)
+found x e = cc
 
 pub both_passed : (a b : Option Fault) → or_else a b ≡ None → (a ≡ None) × (b ≡ None)
 both_passed None b e = (refl, e)

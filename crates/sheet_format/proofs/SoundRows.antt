@@ -2,10 +2,6 @@
 use Rattle.std.proofs.Common.{◌≡◌, ℕ, zero, suc, ◌+◌, ◌-◌, ◌<◌, ◌≤◌, Bool, true, false, cond, eqb, leb, List, [], ◌∷◌, length, get_or, take, is_some, Some, None, Option, unwrap_or, sym, refl, ap, ◌∙◌, inl, inr, arith}
 use Rattle.std.proofs.lemmas.List.{get_or_past, get_or-take, get_or_default, length-take}
 use Rattle.std.proofs.lemmas.Bool.{cases_lt, and_parts, eqb-true, leb-true}
-use Rattle.circuit.specs.declared.gate.Unary.{Unary}
-use Rattle.circuit.specs.declared.gate.Unary.TheVariants.{Buffer, Inverter}
-use Rattle.circuit.specs.declared.gate.Binary.{Binary}
-use Rattle.circuit.specs.declared.gate.Binary.TheVariants.{And, Or, Xor, Nand, Nor, Xnor}
 use Rattle.circuit.specs.declared.gate.Kind as kinds
 use Rattle.circuit.specs.declared.gate.Kind.{Kind}
 use Rattle.circuit.specs.declared.gate.Kind.TheVariants.{Table}
@@ -22,7 +18,7 @@ use Rattle.sheet_format.specs.Rows.{gate_text, output_text}
 use Rattle.sheet_format.specs.Shapes.{lowest, highest, header_shape, gate_shape, output_shape}
 use Rattle.sheet_format.specs.Decoding.{letter, fields_of, number, numbers, filled, inputs_from, gate_from, kind_in, gate_in}
 use Rattle.sheet_format.specs.FirstFault.{unless, row_fault, header_fault, gate_fault, output_fault, names_gate, may_stand}
-use Rattle.sheet_format.proofs.Bounds.{input_bounds}
+use Rattle.sheet_format.proofs.OfKinds.{input_bounds, unary_takes, binary_takes, takes}
 use Rattle.sheet_format.proofs.SoundLooks.{all_passed, test_passed}
 use Rattle.sheet_format.proofs.SoundRow.{RowHolds, row_passed}
 
@@ -75,26 +71,8 @@ letter_here true k rest x is later e = eqb-true (letter_of k) x is
 letter_here false k rest x is later e = later e
 
 pub letter_named : (ks : List Kind) (x : ℕ) → is_some (kind_among ks x) ≡ true → letter_of (unwrap_or (kind_among ks x) Table) ≡ x
-letter_named [] x e = let no : ◌≡◌ {A = ℕ} 0 1 = cc in absurd (omega arith)
+letter_named [] x e = cc
 letter_named (k ∷ ks) x e = letter_here (eqb (letter_of k) x) k (kind_among ks x) x refl (letter_named ks x) e
-
--- how many inputs a kind takes
-unary_takes : (u : Unary) → (fewest_inputs (kinds.TheVariants.Unary u) ≡ 1) × (most_inputs (kinds.TheVariants.Unary u) ≡ 1)
-unary_takes Buffer = (refl, refl)
-unary_takes Inverter = (refl, refl)
-
-binary_takes : (o : Binary) → (fewest_inputs (kinds.TheVariants.Binary o) ≡ 2) × (most_inputs (kinds.TheVariants.Binary o) ≡ 2)
-binary_takes And = (refl, refl)
-binary_takes Or = (refl, refl)
-binary_takes Xor = (refl, refl)
-binary_takes Nand = (refl, refl)
-binary_takes Nor = (refl, refl)
-binary_takes Xnor = (refl, refl)
-
-pub takes : (x : Kind) → (1 ≤ fewest_inputs x) × (fewest_inputs x ≤ 2) × (most_inputs x ≤ 4)
-takes (kinds.TheVariants.Unary u) = let n = unary_takes u in (omega arith, omega arith, omega arith)
-takes (kinds.TheVariants.Binary o) = let n = binary_takes o in (omega arith, omega arith, omega arith)
-takes kinds.TheVariants.Table = (omega arith, omega arith, omega arith)
 
 -- the first k of six numbers are those of the gate of that kind
 table_numbers : (k a b c d e f : ℕ) → 2 ≤ k → k ≤ 5
@@ -165,7 +143,7 @@ bare Alone x k ns e = tt
 bare Target x k ns e = tt
 bare Specification (kinds.TheVariants.Unary u) k ns e = refl
 bare Specification (kinds.TheVariants.Binary o) k ns e = refl
-bare Specification kinds.TheVariants.Table k ns e = let no : ◌≡◌ {A = ℕ} 0 1 = cc in absurd (omega arith)
+bare Specification kinds.TheVariants.Table k ns e = cc
 
 -- a gate's row says a gate that reads nets below its own
 pub record GateHolds (role : Role) (own before : ℕ) (row : List ℕ) : Type 0 where

@@ -9,7 +9,7 @@ ghost use Rattle.engine.specs.Calls.{Tries};
 ghost use Rattle.engine.specs.declared.types.Phase.TheVariants.{Idle, Searching};
 
 use crate::counting::Counting;
-use crate::rows;
+use crate::rows::count_up;
 use clause::literal::Literal;
 use clause::values::Values;
 use engine::control::Control;
@@ -60,7 +60,9 @@ impl Engine for Counting {
     fn grow(&mut self, variables: usize) -> Result<(), Refusal> {
         self.control.may_grow(self.row.len(), variables)?;
         self.control.phase = Phase::Idle;
-        rows::widen(&mut self.row, variables);
+        // The capacity holds the places, so neither this nor `add` asks for memory.
+        let all = self.row.len() + variables;
+        self.row.resize(all, false).unwrap();
         Ok(())
     }
 
@@ -68,7 +70,11 @@ impl Engine for Counting {
         self.control
             .may_add(self.row.len(), self.words.len(), clause)?;
         self.control.phase = Phase::Idle;
-        rows::store(&mut self.words, clause);
+        self.words.push_reserved(Literal {
+            variable: clause.len(),
+            negated: false,
+        });
+        self.words.extend_from_slice(clause).unwrap();
         Ok(())
     }
 
@@ -118,7 +124,7 @@ impl Counting {
             self.control.phase = Phase::Model;
             return Answer::Model;
         }
-        if rows::count_up(&mut self.row) {
+        if count_up(&mut self.row) {
             return Answer::More;
         }
         self.control.phase = Phase::Unsatisfiable;

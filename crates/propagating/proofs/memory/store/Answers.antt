@@ -1,33 +1,10 @@
-use Rattle.std.proofs.Common.{◌+◌, ◌-◌, ◌++◌, length, get_or, drop, replicate, refl, ap, ◌∙◌, arith, rules, length-set}
+use Rattle.std.proofs.Common.{◌+◌, ◌-◌, ◌++◌, length, get_or, drop, replicate, refl, ap, ◌∙◌, arith, length-set}
 use Rattle.clause.specs.Logic.{some_outside}
 use Rattle.clause.proofs.Inside.{inside_at}
 use Rattle.trail.specs.Cells.{empty_literal, empty_slot, heads_of}
 use Rattle.trail.proofs.Slots.{field_kept, link_value, link_entry}
 use Rattle.trail.proofs.Stores.{store_literal, store_head, store_literals, store_heads}
 use Rattle.propagating.proofs.memory.store.Goals as goal
-
-pub overflow_sub-literal : goal.overflow_sub-literal
-overflow_sub-literal c =
-    let a = inside_at (length c.loop-literal.slots) c.args.clause.now c.loop-literal.literal-index c.loop-literal-test.true c.loop-literal.invariant.2 in
-    let low = a.here.low in
-    search rules
-
-pub bounds-slots-literal : goal.bounds-slots-literal
-bounds-slots-literal c =
-    let a = inside_at (length c.loop-literal.slots) c.args.clause.now c.loop-literal.literal-index c.loop-literal-test.true c.loop-literal.invariant.2 in
-    let high = a.here.high in
-    let low = a.here.low in
-    search rules
-
-pub offset_bounds-slots-literal : goal.offset_bounds-slots-literal
-offset_bounds-slots-literal c =
-    let a = inside_at (length c.loop-literal.slots) c.args.clause.now c.loop-literal.literal-index c.loop-literal-test.true c.loop-literal.invariant.2 in
-    let high = a.here.high in
-    let low = a.here.low in
-    search rules
-
-pub push_reserved-requires-in-loop-literal : goal.push_reserved-requires-in-loop-literal
-push_reserved-requires-in-loop-literal c = omega (arith, c.requires.room, c.loop-literal-test.true, c.loop-literal.invariant.3, c.loop-literal.invariant.4, c.push_reserved.ensures.len, c.push_reserved.ensures.capacity)
 
 pub loop-literal-preserved : goal.loop-literal-preserved
 loop-literal-preserved c =

@@ -1,9 +1,8 @@
 -- From the end of the trail to its beginning, until a decision.
-use Rattle.std.proofs.Common.{◌≡◌, length, take, refl, sym, ap, ◌∙◌, arith, rules}
+use Rattle.std.proofs.Common.{length, refl, sym, ap, ◌∙◌, arith, rules}
 use lib.ListN.{length-map}
 use Rattle.std.proofs.lemmas.List.{map-set}
 use Rattle.trail.specs.Cells.{entries_of}
-use Rattle.trail.specs.Trail.{written}
 use Rattle.trail.proofs.Memory.{taken_off, forced_more}
 use Rattle.trail.proofs.Slots.{field_kept}
 use Rattle.propagating.proofs.memory.undo.Goals as goal
@@ -53,12 +52,3 @@ loop-i-preserved c =
     let inv = c.loop-i.invariant in
     let t = taken_off (length c.args.slots.now) c.args.trail c.loop-i.i c.loop-i.slots es c.loop-i.auto.slots (length-map c.args.slots.now (λ s. s.entry)) c.requires.short c.loop-i.auto.i c.loop-i-test.true c.requires.fresh inv.0 inv.1 in
     (field_kept (λ s. s.entry) c.loop-i.slots _ _ _ (omega (arith, t.low, t.high, c.loop-i.auto.slots)) refl ∙ inv.0, map-set (λ s. s.value) c.loop-i.slots _ _ ∙ t.next, forced_more es c.args.trail c.loop-i.i c.loop-i-test.true (sym (ap (λ e. e.decided) t.is) ∙ c.if-entry.false) inv.2)
-
-pub returns : goal.returns
-returns c =
-    let inv = c.loop-i.invariant in
-    let none : c.loop-i.i ≡ 0 = omega arith in
-    record {
-      entries = inv.0;
-      back = (λ i h. inv.2 i (omega arith) h, inv.1 ∙ ap (λ k. written (length c.args.slots.now) (take k (entries_of c.args.slots.now))) none);
-    }

@@ -6,5 +6,5 @@ use Rattle.sheet.proofs.write.put_rows.Given as goal
 abbrev pub invariant-loop-i : goal.invariant-loop-i
 invariant-loop-i g l =
     ((text : ℕ → _ → List ℕ) → ((i : ℕ) (x : Bor _) (r : _) → i < length l.items → goal.F-post g l.row_of i x r → r ≡ text i x.now)
-    → (l.into ≡ laid l.initial.into l.at (texts text 0 (take l.i l.items))) × (length (texts text 0 (take l.i l.items)) ≡ 32 * l.i))
+    → (l.into ≡ laid l.initial.into 0 (texts text 0 (take l.i l.items))) × (length (texts text 0 (take l.i l.items)) ≡ 32 * l.i))
     × (length l.into ≡ length l.initial.into)

@@ -1,14 +1,6 @@
 use Rattle.std.proofs.Common.{arith, rules}
-use Rattle.propagating.proofs.Considering.{all_rest, rest_begins, next_rest, goes_none, goes_then}
+use Rattle.propagating.proofs.Considering.{next_rest, goes_then}
 use Rattle.propagating.proofs.search.Search.sweep.Goals as goal
-
-pub loop-head-init : goal.loop-head-init
-loop-head-init c = (goes_none c.args.self.now, all_rest c.args.self.now)
-
-pub consider-requires : goal.consider-requires
-consider-requires c =
-    let s = c.loop-head.self in
-    rest_begins s c.loop-head.head c.loop-head.invariant.1 (omega (arith, s.words.ok.0))
 
 pub overflow_add-head-in-loop-head : goal.overflow_add-head-in-loop-head
 overflow_add-head-in-loop-head c =

@@ -1,9 +1,8 @@
-use Rattle.std.proofs.Common.{◌+◌, true, false, length, drop, Some, None, sym, ap, ◌∙◌, ◌≡◌, rules}
+use Rattle.std.proofs.Common.{◌+◌, true, false, length, drop, Some, None, sym, ap, ◌∙◌}
 use Rattle.clause.proofs.Inside.{not_outside}
 use Rattle.trail.specs.Cells.{values_of, literals_of}
-use Rattle.trail.specs.Values.{status_from, either}
-use Rattle.trail.specs.declared.status.Status.TheVariants.{Unit, Falsified}
-use Rattle.trail.proofs.Looks.{word_at, status_at, two_open, one_open, status_end}
+use Rattle.trail.specs.Values.{status_from}
+use Rattle.trail.proofs.Looks.{word_at, status_at, two_open, one_open}
 use Rattle.propagating.proofs.search.propagation.look.Goals as goal
 use Rattle.propagating.proofs.search.propagation.look.Goals.{in-Some-false, in-None+else-is_some}
 
@@ -36,6 +35,3 @@ loop-word-preserved c =
       ],
       w.rest,
     )
-
-pub returns : goal.returns
-returns c = (let e : c.map_or.result ≡ either c.loop-word.pending Falsified Unit = search rules in e) ∙ sym (status_end (values_of c.args.slots.now) c.loop-word.pending c.args.clause.now c.loop-word.word-index c.loop-word-test.false) ∙ c.loop-word.invariant.0

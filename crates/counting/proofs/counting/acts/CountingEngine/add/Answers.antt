@@ -1,25 +1,28 @@
-use Rattle.std.proofs.Common.{◌≡◌, false, [], ◌∷◌, ◌++◌, vec_items, sym, ap, ◌∙◌, arith}
+use Rattle.std.proofs.Common.{◌≡◌, false, [], ◌∷◌, ◌++◌, ◌+◌, length, vec_len, if◌then◌else◌, vec_items, sym, ap, ◌∙◌, arith}
 use Rattle.clause.specs.Logic.{some_outside, all_inside}
 use Rattle.clause.specs.Memory.{clauses_of}
 use Rattle.clause.proofs.Coding.{coded_words, stored}
 use Rattle.clause.proofs.Inside.{inside_push}
 use Rattle.engine.proofs.Refusals.{may_add, add_passes, searching_in}
 use Rattle.counting.specs.Meaning.{row_of, view_of}
-use Rattle.counting.proofs.Steps.{idle_tried}
+use Rattle.counting.proofs.Steps.{idle_tried, put_last}
 use Rattle.counting.proofs.counting.acts.CountingEngine.add.Goals as goal
 
 pub invariant_of-self-2 : goal.invariant_of-self-2
 invariant_of-self-2 c =
     let s = c.args.self.now in
     let clause = c.args.clause.now in
-    let after = c.store.ensures in
-    let words = c.store.new.words in
-    let new = stored (vec_items s.words) (vec_items words) clause s.coded after.items in
+    let after = c.extend_from_slice.ensures in
+    let words = c.extend_from_slice.new.self in
     let may = may_add _ s.control.places c.len.result c.len-2.result clause c.in_ok-may_add.ensures in
+    let fits = after.succeeds (omega (arith, c.len-2.ensures, c.push_reserved.ensures.len, c.push_reserved.ensures.capacity)) in
+    let new = stored (vec_items s.words) (vec_items words) clause s.coded (put_last _ _ _ _ clause fits c.push_reserved.ensures.items after.items) in
+    let long : vec_len words ≡ s.words.len + 1 + length clause =
+    after.len ∙ ap (λ b. if b then vec_len c.push_reserved.new.self + length clause else vec_len c.push_reserved.new.self) fits ∙ ap (λ n. n + length clause) c.push_reserved.ensures.len in
     let inside : some_outside s.row.len clause ≡ false = ap (λ n. some_outside n clause) (sym c.len.ensures) ∙ may.0 in
     record {
       row_room = s.row_room;
-      word_room = (omega (arith, after.len, may.1, c.len-2.ensures), omega (arith, after.capacity));
+      word_room = (omega (arith, c.len-2.ensures), omega (arith, after.capacity, c.push_reserved.ensures.capacity));
       coded = new.coded;
       sized = coded_words (vec_items words) new.coded ∙ sym words.ok.0;
       inside = ap (all_inside s.row.len) new.clauses ∙ inside_push s.row.len (view_of s).clauses clause s.inside inside;
@@ -30,7 +33,10 @@ pub returns : goal.returns
 returns c =
     let s = c.args.self.now in
     let clause = c.args.clause.now in
-    let new = vec_items c.store.new.words in
-    let clauses : clauses_of new ≡ (view_of s).clauses ++ (clause ∷ []) = (stored (vec_items s.words) new clause s.coded c.store.ensures.items).clauses in
+    let after = c.extend_from_slice.ensures in
+    let may = may_add _ s.control.places c.len.result c.len-2.result clause c.in_ok-may_add.ensures in
+    let fits = after.succeeds (omega (arith, c.len-2.ensures, c.push_reserved.ensures.len, c.push_reserved.ensures.capacity)) in
+    let new = vec_items c.extend_from_slice.new.self in
+    let clauses : clauses_of new ≡ (view_of s).clauses ++ (clause ∷ []) = (stored (vec_items s.words) new clause s.coded (put_last _ _ _ _ clause fits c.push_reserved.ensures.items after.items)).clauses in
     let searches = searching_in s.control.phase _ (row_of s) in
     (add_passes (view_of s) clause _ _ _ searches (sym c.len.ensures) (s.sized ∙ sym c.len-2.ensures) c.in_ok-may_add.ensures, cc)

@@ -1,4 +1,4 @@
-use Rattle.std.proofs.Common.{ap, get_or, ◌∙◌, refl, arith}
+use Rattle.std.proofs.Common.{ap, get_or, ◌∙◌, arith}
 use Rattle.trail.specs.Cells.{empty_slot}
 use Rattle.trail.proofs.Looks.{value_told}
 use Rattle.propagating.proofs.search.formula.SearchValues.value.Goals as goal
@@ -8,9 +8,3 @@ returns-in-Some c =
     let found = c.in-Some.ensures.lookup in
     value_told c.args.self.now.slots.items c.args.variable c.saturating_sub.result c.in-Some.slot.now c.unwrap_or.result c.saturating_sub.ensures
     (found.4 (omega arith) empty_slot ∙ ap (λ xs. get_or xs c.saturating_sub.result empty_slot) c.deref.ensures.value) c.unwrap_or.ensures
-
-pub returns-in-None : goal.returns-in-None
-returns-in-None c =
-    let found = c.in-None.ensures.lookup in
-    value_told c.args.self.now.slots.items c.args.variable c.saturating_sub.result empty_slot _ c.saturating_sub.ensures
-    (found.4 (omega arith) empty_slot ∙ ap (λ xs. get_or xs c.saturating_sub.result empty_slot) c.deref.ensures.value) refl
