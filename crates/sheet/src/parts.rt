@@ -17,7 +17,7 @@ use refusal::refusal::Refusal;
 use refusal::role::Role;
 
 /// What a sheet's first row says.
-#[derive(Clone, Copy)]
+#[derive(Clone, Copy, Debug, PartialEq, Eq)]
 pub struct Header {
     pub inputs: u8,
     pub gates: usize,
