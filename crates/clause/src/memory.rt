@@ -7,6 +7,8 @@ ghost use Rattle.clause.specs.declared.literal.Literal.{Literal};
 use crate::literal::Literal;
 
 /// An element of a memory of clauses, which holds a literal.
+// A head is a literal too, whose variable is the count, and no case of an enum: a clause in memory is then a slice of literals,
+// and no look at a literal has a case for a head, which cannot come.
 pub trait AsLiteral {
     /// The literal that it holds.
     ghost literal: { Self → Literal };

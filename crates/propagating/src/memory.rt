@@ -41,6 +41,7 @@ pub(crate) fn choose(slots: &[Slot], from: usize) -> Option<usize>
 }
 
 /// Opens the variables of the trail from its end down to the last open decision, and tells that decision's position.
+// By positions, since a position's literal opens another slot: no iterator over the slots can live on the way.
 pub(crate) fn undo(slots: &mut [Slot], trail: usize) -> Option<usize>
     requires short { trail ≤ length slots.old }
     requires written { values_of slots.old ≡ written (length slots.old) (take trail (entries_of slots.old)) }

@@ -34,6 +34,7 @@ pub struct Word {
 
 impl Slot {
     /// An open variable that no clause has yet.
+    // No `Default`: its literal of variable 0 is no literal, so `Literal` has none, and a derive here would ask for one.
     pub fn empty() -> Slot
         ensures { result ≡ empty_slot }
     {
