@@ -19,25 +19,14 @@ const WORDS: u64 = 262_144;
 trait Measured: Algebra + Copy + From<bool> {
     /// How many evaluations serve all the words: a lane serves one.
     const EVALUATIONS: u64;
-
-    /// In how many of its lanes the value is 1.
-    fn ones(self) -> u64;
 }
 
 impl Measured for Bit {
     const EVALUATIONS: u64 = WORDS;
-
-    fn ones(self) -> u64 {
-        u64::from(self.value)
-    }
 }
 
 impl Measured for Word {
     const EVALUATIONS: u64 = WORDS / 64;
-
-    fn ones(self) -> u64 {
-        u64::from(self.bits.count_ones())
-    }
 }
 
 /// Writes the bits of a number, each in every lane of its place.
@@ -49,13 +38,19 @@ fn put<K: Copy + From<bool>>(number: u64, places: &mut [K]) {
     }
 }
 
-/// Evaluates the circuit; in how many lanes the first gate's net was 1, so that no evaluation can be left out.
-fn evaluations<K: Measured>(rt: &HostRuntime, circuit: &Circuit) -> io::Result<u64> {
+/// Evaluates the circuit; in how many lanes the first gate's net was 1, by `ones`, so that no evaluation can be left out.
+fn evaluations<K: Measured, F: Fn(K) -> u64>(
+    rt: &HostRuntime,
+    circuit: &Circuit,
+    ones: F,
+) -> io::Result<u64>
+    requires { F.IsAlwaysCallable ones }
+{
     let n = usize::from(circuit.inputs);
     let rows = vec![in rt.alloc(); K::from(true); circuit.rows()]?;
     let mut inputs = vec![in rt.alloc(); K::from(false); n]?;
     let mut nets = vec![in rt.alloc(); K::from(false); n + circuit.gates.len()]?;
-    let mut ones = 0u64;
+    let mut total = 0u64;
     for word in 0..K::EVALUATIONS {
         put(word, inputs.as_mut_slice());
         let _ = evaluate(
@@ -64,9 +59,9 @@ fn evaluations<K: Measured>(rt: &HostRuntime, circuit: &Circuit) -> io::Result<u
             inputs.as_slice(),
             nets.as_mut_slice(),
         );
-        ones = ones.wrapping_add(nets[n].ones());
+        total = total.wrapping_add(ones(nets[n]));
     }
-    Ok(ones)
+    Ok(total)
 }
 
 /// Gate evaluations a second.
@@ -78,17 +73,23 @@ fn rate(gates: usize, nanos: u128) -> u128 {
 }
 
 /// In how many lanes the first gate's net was 1, and the gate evaluations a second.
-fn timed<K: Measured>(rt: &HostRuntime, circuit: &Circuit) -> io::Result<(u64, u128)> {
+fn timed<K: Measured, F: Fn(K) -> u64>(
+    rt: &HostRuntime,
+    circuit: &Circuit,
+    ones: F,
+) -> io::Result<(u64, u128)>
+    requires { F.IsAlwaysCallable ones }
+{
     let start = Instant::now(rt)?;
-    let ones = evaluations::<K>(rt, circuit)?;
+    let total = evaluations(rt, circuit, ones)?;
     let nanos = start.elapsed(rt)?.as_nanos();
-    Ok((ones, rate(circuit.gates.len(), nanos)))
+    Ok((total, rate(circuit.gates.len(), nanos)))
 }
 
 fn measure(rt: &HostRuntime, circuit: &Circuit) -> io::Result<()> {
     let gates = circuit.gates.len();
-    let (a, slow) = timed::<Bit>(rt, circuit)?;
-    let (b, fast) = timed::<Word>(rt, circuit)?;
+    let (a, slow) = timed(rt, circuit, |bit: Bit| u64::from(bit.value))?;
+    let (b, fast) = timed(rt, circuit, |word: Word| u64::from(word.bits.count_ones()))?;
     let times = fast / slow.max(1);
     eprintln!(rt; "{gates} gates, {WORDS} evaluations ({a}, {b})")?;
     eprintln!(rt; "one at a time: {slow} gate evaluations a second")?;
