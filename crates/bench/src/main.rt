@@ -38,6 +38,7 @@ fn put<K: Copy + From<bool>>(number: u64, places: &mut [K]) {
     }
 }
 
+// The vectors are made before the first evaluation: an array of a type parameter is not to be had.
 /// Evaluates the circuit; in how many lanes the first gate's net was 1, by `ones`, so that no evaluation can be left out.
 fn evaluations<K: Measured, F: Fn(K) -> u64>(
     rt: &HostRuntime,

@@ -10,7 +10,8 @@ use std::fmt;
 
 /// A refusal, and where: the sheet, its row from 1 and its column from 1.
 /// A row or a column that is not known yet, or that does not apply, is 0.
-// These two are no `Option`s: a fault's row of 32 bytes writes the very same 0, and rows and columns count from 1.
+// No `Option<u16>` and `Option<u8>`: `Some(0)` would be a second way to say none, and a fault's row of 32 bytes, which writes
+// this very 0, would take `fault.row.map_or(0, u32::from)` for `u32::from(fault.row)`.
 #[derive(Clone, Copy, Debug, PartialEq, Eq)]
 pub struct Fault {
     pub refusal: Refusal,
