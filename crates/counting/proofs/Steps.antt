@@ -25,9 +25,9 @@ pub none_before : (row : Row) (n : ℕ) (cs : List Clause) → row ≡ replicate
 none_before row n cs e r x = let zero_row = ap number e ∙ number_first n in absurd (omega (arith, x.1.less))
 
 -- a clause put last: its head was pushed, and its literals appended, where there was room
-pub put_last : (room : Bool) (ws pushed new : List Literal) (c : Clause) → room ≡ true → pushed ≡ ws ++ (head (length c) ∷ []) → new ≡ (if room then pushed ++ c else pushed)
+pub put_last : (room : Bool) (ws pushed new : List Literal) (c : Clause) (h : Literal) → room ≡ true → h ≡ head (length c) → pushed ≡ ws ++ (h ∷ []) → new ≡ (if room then pushed ++ c else pushed)
     → new ≡ ws ++ (head (length c) ∷ c)
-put_last room ws pushed new c r p n = n ∙ ap (λ b. if b then pushed ++ c else pushed) r ∙ ap (λ x. x ++ c) p ∙ append_assoc ws (head (length c) ∷ []) c
+put_last room ws pushed new c h r e p n = n ∙ ap (λ b. if b then pushed ++ c else pushed) r ∙ ap (λ x. x ++ c) (p ∙ ap (λ x. ws ++ (x ∷ [])) e) ∙ append_assoc ws (head (length c) ∷ []) c
 
 -- a memory of literals holds those literals
 pub as_held : (row : Row) (words held : List Literal) (t : Bool) → held ≡ words → t ≡ all_hold row (clauses_of (map (λ l. l) held)) → t ≡ all_hold row (clauses_of words)

@@ -1,5 +1,5 @@
 // The counting engine's makers and calls.
-// The calls test and refuse, and then leave the work to the private functions at the end.
+// `begin` and `attempt`, at the end, are what a step does before it has answered.
 ghost use Rattle.std.specs.Prelude.{◌≡◌, ◌+◌, ◌≤◌, false, [], ◌∷◌, ◌++◌, length, vec_len, MatchResult};
 ghost use Rattle.clause.specs.Logic.{all_hold, some_outside};
 ghost use Rattle.engine.specs.View.{idle_with, new_with};
@@ -11,6 +11,7 @@ ghost use Rattle.engine.specs.declared.types.Phase.TheVariants.{Idle, Searching}
 use crate::counting::Counting;
 use crate::rows::count_up;
 use clause::literal::Literal;
+use clause::memory::head;
 use clause::values::Values;
 use engine::control::Control;
 use engine::engine::Engine;
@@ -70,10 +71,7 @@ impl Engine for Counting {
         self.control
             .may_add(self.row.len(), self.words.len(), clause)?;
         self.control.phase = Phase::Idle;
-        self.words.push_reserved(Literal {
-            variable: clause.len(),
-            negated: false,
-        });
+        self.words.push_reserved(head(clause.len()));
         self.words.extend_from_slice(clause).unwrap();
         Ok(())
     }
