@@ -1,8 +1,8 @@
 -- Clauses in memory: what was written is read again, clause by clause and at every head.
-use Rattle.std.proofs.Common.{◌≡◌, ℕ, zero, suc, ◌+◌, ◌-◌, ◌<◌, ◌≤◌, Bool, true, false, cond, eqb, ltb, List, [], ◌∷◌, ◌++◌, length, get_or, take, drop, sym, refl, ap, ◌∙◌, append_assoc, append-nil, add-one, arith, length-append, length-drop, drop-cons, drop-drop, take_at, drop_at, ltb-false, le-ltb, ne_eqb, eqb-true}
+use Rattle.std.proofs.Common.{◌≡◌, ℕ, zero, suc, ◌+◌, ◌-◌, ◌<◌, ◌≤◌, Bool, true, false, cond, eqb, ltb, List, [], ◌∷◌, ◌++◌, map, length, get_or, take, drop, sym, refl, ap, ◌∙◌, append_assoc, append-nil, add-one, arith, length-append, length-drop, drop-cons, drop-drop, take_at, drop_at, ltb-false, le-ltb, ne_eqb, eqb-true}
 use borrow.Author.Tests.{both_ways}
 use Rattle.clause.specs.Logic.{Clause, clause_holds, all_hold, words, some_outside, all_inside}
-use Rattle.clause.specs.Memory.{head, encode, decode, clauses_of, is_head, Begins}
+use Rattle.clause.specs.Memory.{head, encode, decode, clauses_of, is_head, Begins, parts_of}
 use Rattle.clause.specs.declared.literal.Literal.{Literal}
 use Rattle.clause.proofs.Inside.{no_literal, both_true, all_true}
 
@@ -132,3 +132,14 @@ head_last (d ∷ cs) c =
     let not_first : eqb (length d + 1 + words cs) 0 ≡ false = ne_eqb _ _ (λ z. omega arith) in
     let back : length d + 1 + words cs - (length d + 1) ≡ words cs = omega arith in
     rw (not_first, far) (ap (is_head (cs ++ (c ∷ []))) back ∙ head_last cs c)
+
+-- Literals are equal where their parts are.
+abbrev literals_from : List (ℕ × Bool) → List Literal
+literals_from ps = map (λ p. record { variable = p.0; negated = p.1 }) ps
+
+from_parts : (ls : List Literal) → literals_from (parts_of ls) ≡ ls
+from_parts [] = refl
+from_parts (l ∷ ls) = ap (λ x. l ∷ x) (from_parts ls)
+
+pub same_literals : (ls ms : List Literal) → parts_of ls ≡ parts_of ms → ls ≡ ms
+same_literals ls ms e = sym (from_parts ls) ∙ ap literals_from e ∙ from_parts ms

@@ -1,5 +1,5 @@
 -- How a clause list lies in memory: clause after clause, a head that tells the number of literals, then the literals.
-use Rattle.std.specs.Prelude.{◌≡◌, ℕ, zero, suc, ◌+◌, ◌-◌, ◌<◌, Bool, true, false, cond, List, [], ◌∷◌, ◌++◌, length, take, drop, ◌==◌, nat_lt}
+use Rattle.std.specs.Prelude.{◌≡◌, ℕ, zero, suc, ◌+◌, ◌-◌, ◌<◌, Bool, true, false, cond, List, [], ◌∷◌, ◌++◌, map, length, take, drop, ◌==◌, nat_lt}
 use Rattle.clause.specs.Logic.{Row, Clause, all_hold, all_inside}
 use Rattle.clause.specs.declared.literal.Literal.{Literal}
 
@@ -32,3 +32,7 @@ pub record Begins (v : ℕ) (ws : List Literal) (cs : List Clause) (h : ℕ) : T
   pub below : h < length ws
   pub inside : all_inside v rest ≡ true
   pub entailed : (row : Row) → all_hold row cs ≡ true → all_hold row rest ≡ true
+
+-- literals as pairs of a variable and a sign, which are equal exactly where the literals are
+abbrev pub parts_of : List Literal → List (ℕ × Bool)
+parts_of ls = map (λ l. (l.variable, l.negated)) ls

@@ -1,7 +1,7 @@
 // Clauses as they lie in memory: a head, which tells the number of its literals, and then the literals, clause after clause.
 ghost use Rattle.std.specs.Prelude.{◌≡◌, map};
 ghost use Rattle.std.specs.Iterator.{YieldsFirstBy, item_count};
-ghost use Rattle.clause.specs.Memory.{clauses_of};
+ghost use Rattle.clause.specs.Memory.{clauses_of, head};
 ghost use Rattle.clause.specs.declared.literal.Literal.{Literal};
 
 use crate::literal::Literal;
@@ -22,6 +22,16 @@ impl AsLiteral for Literal {
 
     fn literal(&self) -> Literal {
         *self
+    }
+}
+
+/// The head of a clause of so many literals.
+pub fn head(count: usize) -> Literal
+    ensures { result ≡ head count }
+{
+    Literal {
+        variable: count,
+        negated: false,
     }
 }
 

@@ -36,6 +36,11 @@ number_last [] h = refl
 number_last (true ∷ r) h = let e = number_last r h in rw (pow-succ' 2 (length r)) (omega arith)
 number_last (false ∷ r) h = absurd (both_ways true h refl)
 
+pub number_over : (r : Row) → some_false r ≡ false → number (next r) ≡ 0
+number_over [] h = refl
+number_over (true ∷ r) h = omega (arith, number_over r h)
+number_over (false ∷ r) h = absurd (both_ways true h refl)
+
 pub number_first : (n : ℕ) → number (replicate n false) ≡ 0
 number_first zero = refl
 number_first (suc n) = omega (arith, number_first n)

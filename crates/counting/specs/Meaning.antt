@@ -17,14 +17,18 @@ state_of phase row = state_in phase (2 ^ length row - number row) row
 abbrev pub row_of : Counting → Row
 row_of c = vec_items c.row
 
-abbrev pub view_of : Counting → View
-view_of c = record {
+-- what it means in a phase
+abbrev pub view_in : Phase → Counting → View
+view_in phase c = record {
   variables = vec_len c.row;
   clauses = clauses_of (vec_items c.words);
   count = c.control.count;
   places = c.control.places;
-  state = state_of c.control.phase (row_of c);
+  state = state_of phase (row_of c);
 }
+
+abbrev pub view_of : Counting → View
+view_of c = view_in c.control.phase c
 
 -- a search has begun: what was asked stays, and the steps owed are no more than idle owes
 pub record Begun (e : View) (c : Counting) : Type 0 where

@@ -21,6 +21,7 @@ pub enum Answer {
 }
 
 /// What an engine is doing, as it keeps it for itself.
+// Not an `Option<Answer>`: there each look would say `None` for idle and `Some(Answer::More)` for searching, which is no plainer.
 #[derive(Clone, Copy, Debug, PartialEq, Eq)]
 pub enum Phase {
     /// Nothing since the last change of its formula.

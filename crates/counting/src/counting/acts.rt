@@ -1,16 +1,18 @@
 // The counting engine's makers and calls.
-// The calls test and refuse, and then leave the work to the private functions at the end.
+// `begin` and `attempt`, at the end, are what a step does before it has answered.
 ghost use Rattle.std.specs.Prelude.{◌≡◌, ◌+◌, ◌≤◌, false, [], ◌∷◌, ◌++◌, length, vec_len, MatchResult};
 ghost use Rattle.clause.specs.Logic.{all_hold, some_outside};
 ghost use Rattle.engine.specs.View.{idle_with, new_with};
 ghost use Rattle.refusal.specs.declared.refusal.Refusal.TheVariants.{NoMemory};
-ghost use Rattle.counting.specs.Meaning.{row_of, view_of, Begun};
+ghost use Rattle.counting.specs.Meaning.{row_of, view_of, view_in, Begun};
 ghost use Rattle.engine.specs.Calls.{Tries};
+ghost use Rattle.engine.specs.Phases.{phase_after};
 ghost use Rattle.engine.specs.declared.types.Phase.TheVariants.{Idle, Searching};
 
 use crate::counting::Counting;
 use crate::rows::count_up;
 use clause::literal::Literal;
+use clause::memory::head;
 use clause::values::Values;
 use engine::control::Control;
 use engine::engine::Engine;
@@ -70,10 +72,7 @@ impl Engine for Counting {
         self.control
             .may_add(self.row.len(), self.words.len(), clause)?;
         self.control.phase = Phase::Idle;
-        self.words.push_reserved(Literal {
-            variable: clause.len(),
-            negated: false,
-        });
+        self.words.push_reserved(head(clause.len()));
         self.words.extend_from_slice(clause).unwrap();
         Ok(())
     }
@@ -81,15 +80,17 @@ impl Engine for Counting {
     /// Cost: one row of values is tried, with at most one look at each literal of the formula.
     fn step(&mut self) -> Result<Answer, Refusal> {
         self.control.count_step()?;
-        match self.control.phase {
+        let answer = match self.control.phase {
             Phase::Idle => {
                 self.begin();
-                Ok(self.attempt())
+                self.attempt()
             }
-            Phase::Searching => Ok(self.attempt()),
-            Phase::Model => Ok(Answer::Model),
-            Phase::Unsatisfiable => Ok(Answer::Unsatisfiable),
-        }
+            Phase::Searching => self.attempt(),
+            Phase::Model => Answer::Model,
+            Phase::Unsatisfiable => Answer::Unsatisfiable,
+        };
+        self.control.phase = Phase::from(answer);
+        Ok(answer)
     }
 
     fn value(&self, variable: usize) -> Result<bool, Refusal> {
@@ -118,16 +119,15 @@ impl Counting {
     /// Tries the row, and where it fails goes on to the next.
     fn attempt(&mut self) -> Answer
         requires { self.old.control.phase ≡ Searching }
-        ensures { Tries (view_of self.old) result (view_of self.new) }
+        ensures phase { self.new.control.phase ≡ Searching }
+        ensures tries { Tries (view_of self.old) result (view_in (phase_after result) self.new) }
     {
         if self.row.all_hold(&self.words) {
-            self.control.phase = Phase::Model;
             return Answer::Model;
         }
         if count_up(&mut self.row) {
             return Answer::More;
         }
-        self.control.phase = Phase::Unsatisfiable;
         Answer::Unsatisfiable
     }
 }

@@ -16,7 +16,7 @@ invariant_of-self-2 c =
     let words = c.extend_from_slice.new.self in
     let may = may_add _ s.control.places c.len.result c.len-2.result clause c.in_ok-may_add.ensures in
     let fits = after.succeeds (omega (arith, c.len-2.ensures, c.push_reserved.ensures.len, c.push_reserved.ensures.capacity)) in
-    let new = stored (vec_items s.words) (vec_items words) clause s.coded (put_last _ _ _ _ clause fits c.push_reserved.ensures.items after.items) in
+    let new = stored (vec_items s.words) (vec_items words) clause s.coded (put_last _ _ _ _ clause _ fits c.head.ensures c.push_reserved.ensures.items after.items) in
     let long : vec_len words ≡ s.words.len + 1 + length clause =
     after.len ∙ ap (λ b. if b then vec_len c.push_reserved.new.self + length clause else vec_len c.push_reserved.new.self) fits ∙ ap (λ n. n + length clause) c.push_reserved.ensures.len in
     let inside : some_outside s.row.len clause ≡ false = ap (λ n. some_outside n clause) (sym c.len.ensures) ∙ may.0 in
@@ -37,6 +37,6 @@ returns c =
     let may = may_add _ s.control.places c.len.result c.len-2.result clause c.in_ok-may_add.ensures in
     let fits = after.succeeds (omega (arith, c.len-2.ensures, c.push_reserved.ensures.len, c.push_reserved.ensures.capacity)) in
     let new = vec_items c.extend_from_slice.new.self in
-    let clauses : clauses_of new ≡ (view_of s).clauses ++ (clause ∷ []) = (stored (vec_items s.words) new clause s.coded (put_last _ _ _ _ clause fits c.push_reserved.ensures.items after.items)).clauses in
+    let clauses : clauses_of new ≡ (view_of s).clauses ++ (clause ∷ []) = (stored (vec_items s.words) new clause s.coded (put_last _ _ _ _ clause _ fits c.head.ensures c.push_reserved.ensures.items after.items)).clauses in
     let searches = searching_in s.control.phase _ (row_of s) in
     (add_passes (view_of s) clause _ _ _ searches (sym c.len.ensures) (s.sized ∙ sym c.len-2.ensures) c.in_ok-may_add.ensures, cc)
