@@ -83,7 +83,8 @@ impl Search {
     }
 
     /// Looks at the clauses of a word and of the older words that it leads to.
-    // The walk goes by links, which no iterator of std follows. A link leads to an older word, so the walk ends where one does not.
+    // `consider` takes the whole search, so no iterator along the links (as `successors` gives) can borrow the words on the way.
+    // A link leads to an older word, so the walk ends where one does not.
     fn visit(&mut self, newest: Option<usize>) -> Result<(), Conflict>
         ensures goes { Goes self.old self.new }
         ensures conflict { OnErr result (Refutes self.new) }
