@@ -1,5 +1,5 @@
 -- What a search holds, and what its parts do to it.
-use Rattle.std.specs.Prelude.{◌≡◌, ℕ, ◌+◌, ◌≤◌, true, List, take, vec_len, vec_capacity}
+use Rattle.std.specs.Prelude.{◌≡◌, ℕ, ◌+◌, ◌≤◌, true, List, take, Result, OnErr, vec_len, vec_capacity}
 use Rattle.clause.specs.Logic.{Clause, Solves, Unsolvable}
 use Rattle.engine.specs.declared.types.Answer.{Answer}
 use Rattle.engine.specs.declared.types.Answer.TheVariants.{More, Model, Unsatisfiable}
@@ -41,11 +41,21 @@ pub record Goes (s s' : Search) : Type 0 where
   pub keeps : Keeps s s'
   pub debt : owes s' ≤ owes s
 
+-- the same, and where it ends in a conflict, no model agrees with the trail
+pub record Follows {T E : Type 0} (s : Search) (r : Result T E) (s' : Search) : Type 0 where
+  pub goes : Goes s s'
+  pub conflict : OnErr r (Refutes s')
+
 -- What a step comes to: more with a lower debt, a model, or none.
 abbrev pub Turns : Search → Answer → Search → Type 0
 Turns s More s' = owes s' + 1 ≤ owes s
 Turns s Model s' = Solves (vec_len s'.slots) (clauses_in s') (row_of (values_in s'))
 Turns s Unsatisfiable s' = Unsolvable (vec_len s'.slots) (clauses_in s')
+
+-- a step
+pub record Steps (s : Search) (a : Answer) (s' : Search) : Type 0 where
+  pub keeps : Keeps s s'
+  pub turns : Turns s a s'
 
 -- the decision that makes a slot's variable false
 abbrev pub decision : ℕ → Entry

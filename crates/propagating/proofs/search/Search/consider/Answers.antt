@@ -31,13 +31,15 @@ invariant_of-self-in-Unit c =
     let p = put c.args.self.now.slots.items c.deref_mut.result.now c.assign.new.slots c.args.self.now.slots.len c.args.self.now.progress.trail (record { literal = c.in-Unit.literal; decided = false }) c.deref_mut.ensures.value (c.assign.auto.slots ∙ c.deref_mut.ensures.len) c.assign.ensures.values c.assign.ensures.entries in
     record { loaded = c.args.self.now.loaded; standing = (forced c.args.self.now c.in-Unit.literal _ m p).standing }
 
-pub returns-in-Falsified-clause-conflict : goal.returns-in-Falsified-clause-conflict
-returns-in-Falsified-clause-conflict c =
-    refuted_there c.args.self.now c.args.head c.deref.result.now c.clause_at-clause.result.now c.deref-2.result.now c.requires c.deref.ensures.value c.clause_at-clause.ensures c.deref-2.ensures.value c.in-Falsified.ensures
+pub returns-in-Falsified-clause-follows : goal.returns-in-Falsified-clause-follows
+returns-in-Falsified-clause-follows c = record {
+  goes = record { keeps = record { words = refl; variables = refl; room = refl }; debt = omega arith };
+  conflict = refuted_there c.args.self.now c.args.head c.deref.result.now c.clause_at-clause.result.now c.deref-2.result.now c.requires c.deref.ensures.value c.clause_at-clause.ensures c.deref-2.ensures.value c.in-Falsified.ensures;
+}
 
-pub returns-in-Unit-clause-goes : goal.returns-in-Unit-clause-goes
-returns-in-Unit-clause-goes c =
+pub returns-in-Unit-clause-follows : goal.returns-in-Unit-clause-follows
+returns-in-Unit-clause-follows c =
     let m = unit_there c.args.self.now c.args.head c.deref.result.now c.clause_at-clause.result.now c.deref-2.result.now c.in-Unit.literal c.requires c.deref.ensures.value c.clause_at-clause.ensures c.deref-2.ensures.value c.in-Unit.ensures in
     let p = put c.args.self.now.slots.items c.deref_mut.result.now c.assign.new.slots c.args.self.now.slots.len c.args.self.now.progress.trail (record { literal = c.in-Unit.literal; decided = false }) c.deref_mut.ensures.value (c.assign.auto.slots ∙ c.deref_mut.ensures.len) c.assign.ensures.values c.assign.ensures.entries in
     let f = forced c.args.self.now c.in-Unit.literal _ m p in
-    record { keeps = record { words = refl; variables = refl; room = refl }; debt = omega (arith, f.owes) }
+    record { goes = record { keeps = record { words = refl; variables = refl; room = refl }; debt = omega (arith, f.owes) }; conflict = tt }
