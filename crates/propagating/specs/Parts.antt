@@ -36,6 +36,12 @@ pub record Keeps (s s' : Search) : Type 0 where
   pub variables : vec_len s'.slots ≡ vec_len s.slots
   pub room : vec_capacity s'.slots ≡ vec_capacity s.slots
 
+-- the trail is empty, and there is room for as much
+pub record Emptied (s s' : Search) : Type 0 where
+  pub trail : s'.progress.trail ≡ 0
+  pub slot_room : vec_capacity s.slots ≤ vec_capacity s'.slots
+  pub word_room : vec_capacity s'.words ≡ vec_capacity s.words
+
 -- forced literals were put on the trail, or none
 pub record Goes (s s' : Search) : Type 0 where
   pub keeps : Keeps s s'
