@@ -1,11 +1,11 @@
 -- What a search holds, and what its parts do to it.
-use Rattle.std.specs.Prelude.{◌≡◌, ℕ, ◌+◌, ◌≤◌, true, List, take, Result, OnErr, vec_len, vec_capacity}
-use Rattle.clause.specs.Logic.{Clause, Solves, Unsolvable}
+use Rattle.std.specs.Prelude.{◌≡◌, ℕ, ◌+◌, ◌≤◌, false, List, take, None, Result, OnErr, vec_len, vec_capacity}
+use Rattle.clause.specs.Logic.{Clause, outside, Solves, Unsolvable}
 use Rattle.engine.specs.declared.types.Answer.{Answer}
 use Rattle.engine.specs.declared.types.Answer.TheVariants.{More, Model, Unsatisfiable}
 use Rattle.trail.specs.Debt.{debt}
-use Rattle.trail.specs.Trail.{Trail, Refuted}
-use Rattle.trail.specs.Values.{Values, row_of}
+use Rattle.trail.specs.Trail.{Trail, Forces, Refuted}
+use Rattle.trail.specs.Values.{Values, value_so_far, row_of}
 use Rattle.trail.specs.Cells.{values_of, entries_of, formula}
 use Rattle.trail.specs.declared.cells.Entry.{Entry}
 use Rattle.propagating.specs.declared.search.Search.{Search}
@@ -29,6 +29,12 @@ owes s = debt (vec_len s.slots) (trail_in s)
 -- no model agrees with its trail
 abbrev pub Refutes : Search → Type 0
 Refutes s = Refuted (vec_len s.slots) (clauses_in s) (trail_in s)
+
+-- the literal may be put on its trail: its variable is open, and where it is forced, it follows
+pub record MayPush (s : Search) (e : Entry) : Type 0 where
+  pub inside : outside (vec_len s.slots) e.literal.variable ≡ false
+  pub opened : value_so_far (values_in s) e.literal.variable ≡ None
+  pub forced : e.decided ≡ false → Forces (vec_len s.slots) (clauses_in s) (trail_in s) e.literal
 
 -- variables, clauses and memory stay
 pub record Keeps (s s' : Search) : Type 0 where
@@ -62,7 +68,3 @@ Turns s Unsatisfiable s' = Unsolvable (vec_len s'.slots) (clauses_in s')
 pub record Steps (s : Search) (a : Answer) (s' : Search) : Type 0 where
   pub keeps : Keeps s s'
   pub turns : Turns s a s'
-
--- the decision that makes a slot's variable false
-abbrev pub decision : ℕ → Entry
-decision slot = record { literal = record { variable = slot + 1; negated = true }; decided = true }

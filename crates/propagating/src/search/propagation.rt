@@ -4,7 +4,7 @@ ghost use Rattle.clause.specs.Logic.{outside, some_outside};
 ghost use Rattle.clause.specs.Memory.{Begins};
 ghost use Rattle.trail.specs.Cells.{values_of, literals_of, size_at, clause_at};
 ghost use Rattle.trail.specs.Values.{truth, status, is_falsified};
-ghost use Rattle.propagating.specs.Parts.{clauses_in, values_in, Follows};
+ghost use Rattle.propagating.specs.Parts.{clauses_in, values_in, owes, MayPush, Keeps, Follows};
 
 use super::Search;
 use crate::memory::assign;
@@ -58,6 +58,16 @@ fn clause_at(words: &[Word], head: usize) -> &[Word]
 }
 
 impl Search {
+    /// Puts a literal last on the trail.
+    pub(super) fn push(&mut self, entry: Entry)
+        requires { MayPush self.old entry }
+        ensures keeps { Keeps self.old self.new }
+        ensures debt { owes self.new + 1 ≤ owes self.old }
+    {
+        assign(&mut self.slots, self.progress.trail, entry);
+        self.progress.trail += 1;
+    }
+
     /// Looks at the clause whose head is there: a unit's literal is put on the trail.
     fn consider(&mut self, head: usize) -> Result<(), Conflict>
         requires { Begins (vec_len self.old.slots) (literals_of self.old.words.items) (clauses_in self.old) head }
@@ -70,12 +80,10 @@ impl Search {
             Status::Satisfied | Status::Unresolved => Ok(()),
             Status::Falsified => Err(Conflict),
             Status::Unit(literal) => {
-                let entry = Entry {
+                self.push(Entry {
                     literal,
                     decided: false,
-                };
-                assign(&mut self.slots, self.progress.trail, entry);
-                self.progress.trail += 1;
+                });
                 Ok(())
             }
         }

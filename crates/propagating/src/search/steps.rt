@@ -18,17 +18,13 @@ impl Search {
         ensures keeps { Keeps self.old self.new }
         ensures debt { owes self.new + 1 ≤ owes self.old }
     {
-        let entry = Entry {
+        self.push(Entry {
             literal: Literal {
                 variable: slot + 1,
                 negated: true,
             },
             decided: true,
-        };
-        // As in `consider`. A method of these two lines would ask in three clauses what makes the search stand after it: that the literal
-        // is of a variable, that this is open, and that a forced one follows, each of which one of the two callers knows by itself.
-        assign(&mut self.slots, self.progress.trail, entry);
-        self.progress.trail += 1;
+        });
         self.progress.next = slot + 1;
     }
 
