@@ -16,7 +16,7 @@ use Rattle.trail.proofs.Soundness.{fresh_at, pushed}
 use Rattle.trail.specs.Trail.{literal_at}
 use Rattle.trail.proofs.Verdicts.{MayPut, may_put, conflict}
 use Rattle.propagating.specs.declared.search.Search.{Search}
-use Rattle.propagating.specs.Parts.{clauses_in, values_in, Refutes, Keeps, Goes}
+use Rattle.propagating.specs.Parts.{clauses_in, values_in, MayPush, Refutes, Keeps, Goes}
 use Rattle.propagating.proofs.Lent.{Put, Further, further}
 
 abbrev BeginsIn : Search → ℕ → Type 0
@@ -57,11 +57,9 @@ unit_there s head words clause slots l b w e k u =
     (sym (u ∙ ap (λ x. status (values_of x) (literals_of clause)) k ∙ ap (status (values_in s)) (same_clause s head words clause w e)))
 
 -- The literal is put last.
-pub forced : (s : Search) (l : Literal) (ss : List Slot) → MayPutIn s l → Put s.progress.trail (record { literal = l; decided = false }) s.slots.items ss
-    → Further s.slots.len (clauses_in s) s.progress.trail s.slots.items (s.progress.trail + 1) ss
-forced s l ss m p =
-    let e : Entry = record { literal = l; decided = false } in
-    further s.slots.len (clauses_in s) s.progress.trail e s.slots.items ss p (pushed s.slots.len (clauses_in s) s.progress.trail (values_in s) (entries_of s.slots.items) e s.standing m.inside m.opened (λ _. m.forces))
+pub further_in : (s : Search) (e : Entry) (ss : List Slot) → MayPush s e → Put s.progress.trail e s.slots.items ss → Further s.slots.len (clauses_in s) s.progress.trail s.slots.items (s.progress.trail + 1) ss
+further_in s e ss m p =
+    further s.slots.len (clauses_in s) s.progress.trail e s.slots.items ss p (pushed s.slots.len (clauses_in s) s.progress.trail (values_in s) (entries_of s.slots.items) e s.standing m.inside m.opened m.forced)
 
 -- From a place on the words hold a rest of the clause list, which holds wherever the list does.
 pub record Rest (s : Search) (head : ℕ) : Type 0 where

@@ -1,19 +1,16 @@
 -- A search's slots that were lent as a slice, changed and came back.
-use Rattle.std.proofs.Common.{◌≡◌, ℕ, ◌+◌, ◌-◌, ◌<◌, ◌≤◌, true, false, List, ◌++◌, length, get_or, take, drop, set, None, sym, refl, ap, ◌∙◌, subst, arith, take_at}
-use borrow.Author.Tests.{both_ways}
+use Rattle.std.proofs.Common.{◌≡◌, ℕ, ◌+◌, ◌-◌, ◌≤◌, false, List, ◌++◌, length, get_or, take, drop, set, None, sym, refl, ap, ◌∙◌, subst, arith, take_at}
 use Rattle.clause.specs.Logic.{Clause, negation, outside}
 use Rattle.clause.specs.declared.literal.Literal.{Literal}
-use Rattle.clause.proofs.Inside.{not_outside}
 use Rattle.trail.specs.Cells.{values_of, entries_of, empty_entry}
 use Rattle.trail.specs.Values.{Values, assign, value_so_far}
-use Rattle.trail.specs.Trail.{Trail, literal_at}
+use Rattle.trail.specs.Trail.{literal_at}
 use Rattle.trail.specs.Debt.{debt}
 use Rattle.trail.specs.Standing.{Standing, BackTo, Reversed}
 use Rattle.trail.specs.declared.cells.Entry.{Entry}
 use Rattle.trail.specs.declared.cells.Slot.{Slot}
-use Rattle.trail.proofs.Soundness.{Pushed, pushed, not_full, fresh_at}
+use Rattle.trail.proofs.Soundness.{Pushed, fresh_at}
 use Rattle.trail.proofs.Slots.{field_at}
-use Rattle.propagating.specs.Parts.{decision}
 
 -- they are as many as before
 pub as_many : (ss new : List Slot) (len : ℕ) → length new ≡ len → length (take len (new ++ drop (length new) ss)) ≡ len
@@ -60,17 +57,9 @@ further v cs n e ss ss' p q =
       owes = let same : debt v (take (n + 1) (entries_of ss')) ≡ debt v (take (n + 1) (set (entries_of ss) n e)) = ap (λ x. debt v (take (n + 1) x)) p.entries in omega (arith, q.owes);
     }
 
--- A slot that was found open may be decided.
-open_slot : (vs : Values) (slot : ℕ) → get_or vs slot None ≡ None → value_so_far vs (slot + 1) ≡ None
+-- The variable of a slot that was found open is open.
+pub open_slot : (vs : Values) (slot : ℕ) → get_or vs slot None ≡ None → value_so_far vs (slot + 1) ≡ None
 open_slot vs slot e = ap (λ k. get_or vs k None) (let z : slot + 1 - 1 ≡ slot = omega arith in z) ∙ e
-
-pub may_decide : (v : ℕ) (cs : List Clause) (n : ℕ) (vs : Values) (es : Trail) (slot : ℕ) → Standing v cs n vs es → slot < v → get_or vs slot None ≡ None → n < v
-may_decide v cs n vs es slot s h e = not_full v cs n vs es (slot + 1) s (not_outside v (slot + 1) (omega arith) (omega arith)) (open_slot vs slot e)
-
-pub decided : (v : ℕ) (cs : List Clause) (n slot : ℕ) (ss ss' : List Slot) → Standing v cs n (values_of ss) (entries_of ss) → slot < v → get_or (values_of ss) slot None ≡ None → Put n (decision slot) ss ss'
-    → Further v cs n ss (n + 1) ss'
-decided v cs n slot ss ss' s h e p =
-    further v cs n (decision slot) ss ss' p (pushed v cs n (values_of ss) (entries_of ss) (decision slot) s (not_outside v (slot + 1) (omega arith) (omega arith)) (open_slot (values_of ss) slot e) (λ f. absurd (both_ways true f refl)))
 
 -- The literal of the decision that the trail was taken back to.
 pub decision_read : (v n p : ℕ) (ss ss' : List Slot) (d : Slot) → length ss' ≡ v → n ≤ v → Undone v n p ss ss' → (get_or ss' p d).entry.literal ≡ literal_at (entries_of ss) p

@@ -1,4 +1,4 @@
-// The trail and the values in memory: a literal is assigned, and taken off again.
+// The trail and the values in memory: a literal is assigned, and taken off again; and how a clause is stored.
 ghost use Rattle.std.specs.Prelude.{◌≡◌, ℕ, ◌+◌, ◌-◌, ◌<◌, ◌≤◌, false, [], ◌∷◌, ◌++◌, length, take, replicate, None, vec_len, vec_capacity, MatchOption, ◌≢◌, slice_index_or, slice_set};
 ghost use Rattle.clause.specs.Memory.{head};
 ghost use Rattle.clause.specs.Logic.{outside, some_outside};

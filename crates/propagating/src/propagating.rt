@@ -16,6 +16,7 @@ pub mod acts;
 pub struct Propagating {
     search: Search,
     control: Control,
+    // No vector bound to its places by a type: it would need a maker, growth, pushes and reads of its own, with contracts, for these two lines.
     ghost slots: { (vec_len search.slots ≤ control.places.variables) × (control.places.variables ≤ vec_capacity search.slots) },
     ghost words: { (vec_len search.words ≤ control.places.words) × (control.places.words ≤ vec_capacity search.words) },
     ghost idle: { control.phase ≡ Idle → search.progress.trail ≡ 0 },

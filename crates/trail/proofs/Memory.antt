@@ -1,5 +1,5 @@
 -- Reading and writing slots, in terms of the values and the positions that they hold.
-use Rattle.std.proofs.Common.{◌≡◌, ℕ, ◌+◌, ◌-◌, ◌<◌, ◌≤◌, true, false, ◌⊎◌, List, length, get_or, take, drop, set, replicate, is_some, Some, None, Option, sym, refl, ap, ◌∙◌, subst, inl, inr, arith, get_or-set_other, get_or-set_same, MatchOption, length-take, length-drop}
+use Rattle.std.proofs.Common.{◌≡◌, ℕ, ◌+◌, ◌-◌, ◌<◌, ◌≤◌, Bool, true, false, cond, ◌⊎◌, List, [], ◌∷◌, map, length, get_or, take, drop, set, replicate, is_some, Some, None, Option, unwrap_or, sym, refl, ap, ◌∙◌, subst, inl, inr, arith, get_or-set_other, get_or-set_same, MatchOption, length-take, length-drop}
 use borrow.Author.Tests.{both_ways}
 use lib.ListN.{length-map, length-replicate}
 use Rattle.std.proofs.lemmas.List.{map-set, ext_get_or, get_or_past, get_or-replicate, get_or-take, get_or-drop, take-map, drop-map}
@@ -7,6 +7,7 @@ use Rattle.std.proofs.lemmas.Bool.{cases_lt, cases_eq}
 use Rattle.std.specs.List.{AllWithin, HoldsAt}
 use Rattle.clause.proofs.Inside.{within}
 use Rattle.trail.specs.Cells.{values_of, entries_of, empty_entry, empty_slot}
+use Rattle.trail.specs.Values.{Values, told_of}
 use Rattle.trail.specs.Trail.{Trail, written, Fresh, entry_at, literal_at}
 use Rattle.trail.specs.declared.cells.Slot.{Slot}
 use Rattle.trail.specs.declared.cells.Entry.{Entry}
@@ -111,3 +112,18 @@ forced_more es n i p here later j lo hi = go (cases_lt j i)
     go : (j < i) ⊎ (i ≤ j) → (entry_at es j).decided ≡ false
     go (inl h) = subst (λ k. (entry_at es k).decided ≡ false) (let z : i - 1 ≡ j = omega arith in z) here
     go (inr h) = later j h hi
+
+-- Values are equal where what they tell is.
+abbrev back : Bool × Bool → Option Bool
+back p = cond p.0 (Some p.1) None
+
+back_value : (o : Option Bool) → back (is_some o, unwrap_or o false) ≡ o
+back_value None = refl
+back_value (Some b) = refl
+
+from_told : (vs : Values) → map back (told_of vs) ≡ vs
+from_told [] = refl
+from_told (o ∷ vs) = ap (λ x. x ∷ map back (told_of vs)) (back_value o) ∙ ap (λ x. o ∷ x) (from_told vs)
+
+pub same_values : (vs ws : Values) → told_of vs ≡ told_of ws → vs ≡ ws
+same_values vs ws e = sym (from_told vs) ∙ ap (map back) e ∙ from_told ws

@@ -6,17 +6,13 @@ use Rattle.clause.specs.Logic.{Row, Clause, Solves, literal_holds, outside, nega
 use Rattle.clause.specs.declared.literal.Literal.{Literal}
 use Rattle.trail.specs.Cells.{empty_entry}
 use Rattle.trail.specs.Values.{Values, value_so_far, assign}
-use Rattle.trail.specs.Trail.{Trail, written, Fresh, entry_at, literal_at, agrees, Sound, Refuted}
+use Rattle.trail.specs.Trail.{Trail, written, Fresh, entry_at, literal_at, agrees, Sound, Forces, Refuted}
 use Rattle.trail.specs.Debt.{debt}
 use Rattle.trail.specs.Standing.{Standing, BackTo, Reversed, AllForced}
 use Rattle.trail.specs.declared.cells.Entry.{Entry}
 use Rattle.trail.proofs.Fitting.{written_push, agrees_push}
 use Rattle.trail.proofs.Counting.{room, written_more, length_written}
 use Rattle.trail.proofs.Debts.{debt_push, debt_back}
-
--- every model that agrees with the trail makes the literal hold
-abbrev pub Forces : ℕ → List Clause → Trail → Literal → Type 0
-Forces v cs t l = (row : Row) → Solves v cs row → agrees row t ≡ true → literal_holds row l ≡ true
 
 -- the last position of a longer trail, or one of those before it
 pub data LastOr (n i : ℕ) : Type 0 where

@@ -7,12 +7,11 @@ use Rattle.std.proofs.lemmas.Bool.{cases_lt}
 use Rattle.clause.specs.Logic.{Row, Clause, clause_holds, all_hold, outside, some_outside}
 use Rattle.clause.specs.declared.literal.Literal.{Literal}
 use Rattle.trail.specs.Values.{Values, value_so_far, status, row_of}
-use Rattle.trail.specs.Trail.{Trail, agrees, Refuted}
+use Rattle.trail.specs.Trail.{Trail, agrees, Forces, Refuted}
 use Rattle.trail.specs.Standing.{Standing}
 use Rattle.trail.specs.declared.status.Status.TheVariants.{Unit, Falsified}
 use Rattle.trail.proofs.Fitting.{Fits, fits_written}
 use Rattle.trail.proofs.Statuses.{unit, falsified}
-use Rattle.trail.proofs.Soundness.{Forces}
 
 -- a clause that holds wherever the formula does
 abbrev pub Entailed : List Clause → Clause → Type 0

@@ -45,6 +45,10 @@ pub record Reaches (v : ℕ) (cs : List Clause) (t : Trail) (row : Row) (i : ℕ
 abbrev pub Sound : ℕ → List Clause → Trail → Type 0
 Sound v cs t = (row : Row) (i : ℕ) → Reaches v cs t row i → literal_holds row (literal_at t i) ≡ true
 
+-- every model that agrees with the trail makes the literal hold
+abbrev pub Forces : ℕ → List Clause → Trail → Literal → Type 0
+Forces v cs t l = (row : Row) → Solves v cs row → agrees row t ≡ true → literal_holds row l ≡ true
+
 -- no model agrees with the trail
 abbrev pub Refuted : ℕ → List Clause → Trail → Type 0
 Refuted v cs t = (row : Row) → Solves v cs row → agrees row t ≢ true

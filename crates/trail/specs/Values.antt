@@ -1,5 +1,5 @@
 -- The values so far, and what they make of a clause.
-use Rattle.std.specs.Prelude.{ℕ, ◌-◌, Bool, true, false, cond, not, List, [], ◌∷◌, map, Some, None, Option, slice_index_or, slice_set}
+use Rattle.std.specs.Prelude.{ℕ, ◌-◌, Bool, true, false, cond, not, List, [], ◌∷◌, map, is_some, Some, None, Option, slice_index_or, slice_set}
 use Rattle.std.specs.Option.{unwrap_or, option_map}
 use Rattle.clause.specs.Logic.{Row, Clause}
 use Rattle.clause.specs.declared.literal.Literal.{Literal}
@@ -47,3 +47,7 @@ is_falsified Satisfied = false
 is_falsified Unresolved = false
 is_falsified (Unit l) = false
 is_falsified Falsified = true
+
+-- values as pairs, whether there is one and which, which are equal exactly where the values are
+abbrev pub told_of : Values → List (Bool × Bool)
+told_of vs = map (λ o. (is_some o, unwrap_or o false)) vs

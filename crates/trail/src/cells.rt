@@ -14,6 +14,7 @@ pub struct Entry {
 
 /// Slot i serves variable i + 1 with its value so far and the newest words that hold its literals,
 /// and, apart from that, position i of the trail.
+// Both share one vector, where a `Vec<Entry>` would say the trail better: an engine is handed two vectors, and no call allocates.
 // Words are named by their place: the memory is fixed, and no call allocates.
 #[derive(Clone, Copy, Debug, PartialEq, Eq)]
 pub struct Slot {
@@ -79,6 +80,7 @@ impl Slot {
 
 impl Word {
     /// A word that holds nothing yet.
+    // No `Default`, as for a slot: its literal of variable 0 is no literal.
     pub fn empty() -> Word
         ensures { result ≡ empty_word }
     {

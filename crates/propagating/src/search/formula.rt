@@ -2,7 +2,7 @@
 ghost use Rattle.std.specs.Prelude.{◌≡◌, ℕ, ◌+◌, ◌≤◌, false, [], ◌∷◌, ◌++◌, length, vec_len, vec_capacity};
 ghost use Rattle.clause.specs.Logic.{some_outside};
 ghost use Rattle.trail.specs.Values.{row_of};
-ghost use Rattle.propagating.specs.Parts.{clauses_in, values_in, Keeps};
+ghost use Rattle.propagating.specs.Parts.{clauses_in, values_in, Keeps, Emptied};
 
 use super::Search;
 use crate::memory::{open_all, store};
@@ -54,9 +54,7 @@ impl Search {
     pub(crate) fn clear(&mut self)
         ensures variables { vec_len self.new.slots ≡ 0 }
         ensures words { self.new.words.items ≡ [] }
-        ensures slot_room { vec_capacity self.new.slots ≡ vec_capacity self.old.slots }
-        ensures word_room { vec_capacity self.new.words ≡ vec_capacity self.old.words }
-        ensures trail { self.new.progress.trail ≡ 0 }
+        ensures emptied { Emptied self.old self.new }
     {
         self.slots.clear();
         self.words.clear();
@@ -78,9 +76,8 @@ impl Search {
     pub(crate) fn widen(&mut self, variables: usize)
         requires { vec_len self.old.slots + variables ≤ vec_capacity self.old.slots }
         ensures variables { vec_len self.new.slots ≡ vec_len self.old.slots + variables }
-        ensures room { vec_capacity self.old.slots ≤ vec_capacity self.new.slots }
         ensures words { self.new.words ≡ self.old.words }
-        ensures trail { self.new.progress.trail ≡ 0 }
+        ensures emptied { Emptied self.old self.new }
     {
         self.restart();
         let all = self.slots.len() + variables;
@@ -93,10 +90,8 @@ impl Search {
         requires inside { some_outside (vec_len self.old.slots) clause.now ≡ false }
         ensures clauses { clauses_in self.new ≡ clauses_in self.old ++ (clause.now ∷ []) }
         ensures words { vec_len self.new.words ≡ vec_len self.old.words + (length clause.now + 1) }
-        ensures word_room { vec_capacity self.new.words ≡ vec_capacity self.old.words }
         ensures variables { vec_len self.new.slots ≡ vec_len self.old.slots }
-        ensures slot_room { vec_capacity self.new.slots ≡ vec_capacity self.old.slots }
-        ensures trail { self.new.progress.trail ≡ 0 }
+        ensures emptied { Emptied self.old self.new }
     {
         self.restart();
         store(&mut self.slots, &mut self.words, clause);

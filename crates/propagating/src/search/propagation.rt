@@ -1,10 +1,10 @@
 // Clauses under the values so far, and the literals that follow from them.
-ghost use Rattle.std.specs.Prelude.{◌≡◌, ℕ, ◌+◌, ◌<◌, ◌≤◌, false, length, vec_len, is_err, OnErr};
+ghost use Rattle.std.specs.Prelude.{◌≡◌, ℕ, ◌+◌, ◌<◌, ◌≤◌, false, length, vec_len, is_err};
 ghost use Rattle.clause.specs.Logic.{outside, some_outside};
 ghost use Rattle.clause.specs.Memory.{Begins};
 ghost use Rattle.trail.specs.Cells.{values_of, literals_of, size_at, clause_at};
 ghost use Rattle.trail.specs.Values.{truth, status, is_falsified};
-ghost use Rattle.propagating.specs.Parts.{clauses_in, values_in, Goes, Refutes};
+ghost use Rattle.propagating.specs.Parts.{clauses_in, values_in, owes, MayPush, Keeps, Follows};
 
 use super::Search;
 use crate::memory::assign;
@@ -58,12 +58,21 @@ fn clause_at(words: &[Word], head: usize) -> &[Word]
 }
 
 impl Search {
+    /// Puts a literal last on the trail.
+    pub(super) fn push(&mut self, entry: Entry)
+        requires { MayPush self.old entry }
+        ensures keeps { Keeps self.old self.new }
+        ensures debt { owes self.new + 1 ≤ owes self.old }
+    {
+        assign(&mut self.slots, self.progress.trail, entry);
+        self.progress.trail += 1;
+    }
+
     /// Looks at the clause whose head is there: a unit's literal is put on the trail.
     fn consider(&mut self, head: usize) -> Result<(), Conflict>
         requires { Begins (vec_len self.old.slots) (literals_of self.old.words.items) (clauses_in self.old) head }
         ensures told { is_err result ≡ is_falsified (status (values_in self.old) (literals_of (clause_at self.old.words.items head))) }
-        ensures goes { Goes self.old self.new }
-        ensures conflict { OnErr result (Refutes self.new) }
+        ensures follows { Follows self.old result self.new }
     {
         let clause = clause_at(&self.words, head);
         self.progress.visits = self.progress.visits.wrapping_add(clause.len() as u64);
@@ -71,22 +80,20 @@ impl Search {
             Status::Satisfied | Status::Unresolved => Ok(()),
             Status::Falsified => Err(Conflict),
             Status::Unit(literal) => {
-                let entry = Entry {
+                self.push(Entry {
                     literal,
                     decided: false,
-                };
-                assign(&mut self.slots, self.progress.trail, entry);
-                self.progress.trail += 1;
+                });
                 Ok(())
             }
         }
     }
 
     /// Looks at the clauses of a word and of the older words that it leads to.
-    // The walk goes by links, which no iterator of std follows. A link leads to an older word, so the walk ends where one does not.
+    // `consider` takes the whole search, so no iterator along the links (as `successors` gives) can borrow the words on the way.
+    // A link leads to an older word, so the walk ends where one does not.
     fn visit(&mut self, newest: Option<usize>) -> Result<(), Conflict>
-        ensures goes { Goes self.old self.new }
-        ensures conflict { OnErr result (Refutes self.new) }
+        ensures { Follows self.old result self.new }
     {
         let mut end = self.words.len();
         let mut next = newest;
@@ -103,8 +110,7 @@ impl Search {
 
     /// For each literal of the trail that was not propagated yet, looks at the clauses that have its negation.
     pub(super) fn propagate(&mut self) -> Result<(), Conflict>
-        ensures goes { Goes self.old self.new }
-        ensures conflict { OnErr result (Refutes self.new) }
+        ensures { Follows self.old result self.new }
     {
         let mut position = self.progress.propagated;
         // The trail grows on the way, so a range up to its length would end too early.
@@ -120,8 +126,7 @@ impl Search {
 
     /// Looks at every clause once.
     pub(super) fn sweep(&mut self) -> Result<(), Conflict>
-        ensures goes { Goes self.old self.new }
-        ensures conflict { OnErr result (Refutes self.new) }
+        ensures { Follows self.old result self.new }
     {
         let mut head = 0;
         // Looking at a clause changes the search, so an iterator over its words cannot live on the way.

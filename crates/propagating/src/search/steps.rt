@@ -1,6 +1,6 @@
 // One step of a search: propagation, and then a decision, a return from a conflict, or an answer.
-ghost use Rattle.std.specs.Prelude.{◌≡◌, ℕ, ◌+◌, ◌<◌, ◌≤◌, length, vec_len, None, IfOk, OnErr, slice_index_or};
-ghost use Rattle.propagating.specs.Parts.{values_in, owes, Refutes, Keeps, Goes, Turns};
+ghost use Rattle.std.specs.Prelude.{◌≡◌, ℕ, ◌+◌, ◌<◌, ◌≤◌, length, vec_len, None, IfOk, slice_index_or};
+ghost use Rattle.propagating.specs.Parts.{values_in, owes, Refutes, Keeps, Turns, Follows, Steps};
 
 use super::Search;
 use super::propagation::Conflict;
@@ -18,15 +18,13 @@ impl Search {
         ensures keeps { Keeps self.old self.new }
         ensures debt { owes self.new + 1 ≤ owes self.old }
     {
-        let entry = Entry {
+        self.push(Entry {
             literal: Literal {
                 variable: slot + 1,
                 negated: true,
             },
             decided: true,
-        };
-        assign(&mut self.slots, self.progress.trail, entry);
-        self.progress.trail += 1;
+        });
         self.progress.next = slot + 1;
     }
 
@@ -34,8 +32,7 @@ impl Search {
     /// Where no decision is open, there is no model, and the trail is empty.
     fn reverse(&mut self) -> Answer
         requires { Refutes self.old }
-        ensures keeps { Keeps self.old self.new }
-        ensures turns { Turns self.old result self.new }
+        ensures { Steps self.old result self.new }
     {
         let Some(position) = undo(&mut self.slots, self.progress.trail) else {
             self.progress.restart();
@@ -55,10 +52,8 @@ impl Search {
 
     /// Propagates, and decides an open variable. Where none is open, all clauses hold, or there is a conflict.
     fn pursue(&mut self) -> Result<Answer, Conflict>
-        ensures keeps { Keeps self.old self.new }
-        ensures debt { owes self.new ≤ owes self.old }
+        ensures follows { Follows self.old result self.new }
         ensures turns { IfOk result (λ a. Turns self.old a self.new) }
-        ensures conflict { OnErr result (Refutes self.new) }
     {
         self.propagate()?;
         if let Some(slot) = choose(&self.slots, self.progress.next) {
@@ -74,8 +69,7 @@ impl Search {
 
     /// One step of a search under way.
     pub(crate) fn advance(&mut self) -> Answer
-        ensures keeps { Keeps self.old self.new }
-        ensures turns { Turns self.old result self.new }
+        ensures { Steps self.old result self.new }
     {
         match self.pursue() {
             Ok(answer) => answer,
@@ -85,8 +79,7 @@ impl Search {
 
     /// The first step: every clause is looked at once.
     pub(crate) fn begin(&mut self) -> Answer
-        ensures keeps { Keeps self.old self.new }
-        ensures turns { Turns self.old result self.new }
+        ensures { Steps self.old result self.new }
     {
         match self.sweep() {
             Ok(()) => self.advance(),

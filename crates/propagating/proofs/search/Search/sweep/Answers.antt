@@ -5,12 +5,12 @@ use Rattle.propagating.proofs.search.Search.sweep.Goals as goal
 pub overflow_add-head-in-loop-head : goal.overflow_add-head-in-loop-head
 overflow_add-head-in-loop-head c =
     let s = c.loop-head.self in
-    let n = next_rest s c.consider.new.self c.loop-head.head c.index.result.now c.loop-head.invariant.1 (omega (arith, s.words.ok.0)) c.in_ok-consider.ensures.goes.keeps c.index.ensures in
+    let n = next_rest s c.consider.new.self c.loop-head.head c.index.result.now c.loop-head.invariant.1 (omega (arith, s.words.ok.0)) c.in_ok-consider.ensures.follows.goes.keeps c.index.ensures in
     let fits = n.fits in
     search rules
 
 pub loop-head-preserved : goal.loop-head-preserved
 loop-head-preserved c =
     let s = c.loop-head.self in
-    let n = next_rest s c.consider.new.self c.loop-head.head c.index.result.now c.loop-head.invariant.1 (omega (arith, s.words.ok.0)) c.in_ok-consider.ensures.goes.keeps c.index.ensures in
-    (goes_then _ s _ c.loop-head.invariant.0 c.in_ok-consider.ensures.goes, n.rest)
+    let n = next_rest s c.consider.new.self c.loop-head.head c.index.result.now c.loop-head.invariant.1 (omega (arith, s.words.ok.0)) c.in_ok-consider.ensures.follows.goes.keeps c.index.ensures in
+    (goes_then _ s _ c.loop-head.invariant.0 c.in_ok-consider.ensures.follows.goes, n.rest)
