@@ -3,3 +3,4 @@ pub mod Runs
 pub mod Compare
 pub mod Trailing
 pub mod Left
+pub mod Search

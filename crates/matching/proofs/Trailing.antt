@@ -1,12 +1,14 @@
 -- The trailing zeros of a number that is not 0 count the bits below its lowest bit that is 1; so, of the lanes of a block
 -- shifted down to a word's own lane, they count the words from there on before the first that differs.
-use Rattle.std.proofs.Common.{◌≡◌, ℕ, ◌+◌, ◌-◌, ◌*◌, ◌/◌, ◌%◌, ◌^◌, ◌<◌, ◌≤◌, false, not, eqb, Decides, sym, ap, ◌∙◌, subst, inl, inr, arith}
+use Rattle.std.proofs.Common.{◌≡◌, ℕ, ◌+◌, ◌-◌, ◌*◌, ◌/◌, ◌%◌, ◌^◌, ◌<◌, ◌≤◌, false, not, eqb, Decides, sym, refl, ap, ◌∙◌, subst, inl, inr, arith}
+use Rattle.std.specs.Prelude.{nat_eq, true, Option, Some, None}
+use Rattle.std.specs.Option.{MatchOption, IfSome, is_some}
 use mir.Syntax.{w64}
 use lib.Count.{count_trailing_zeros}
 use Rattle.std.specs.Int.{bit_at}
 use Rattle.std.proofs.lemmas.Nat.{shr-shr, shr_le}
 use Rattle.std.proofs.lemmas.Nat.Bits.{bit_at_above, bit_at-trailing_zeros}
-use Rattle.std.proofs.lemmas.Bool.{cases_lt, both_ways, not-true}
+use Rattle.std.proofs.lemmas.Bool.{cases_lt, both_ways, not-true, not-false, eqb-true}
 use Rattle.std.proofs.lemmas.Bool.Decides.{Decides-at}
 use Rattle.meaning.specs.Meaning.{bit}
 use Rattle.value.specs.Words.{bit_zero}
@@ -47,3 +49,15 @@ module _ (M : ℕ → Type 0) (from d : ℕ) (tells : (j : ℕ) → j < 64 → D
             let place : from + (w - from) ≡ w = omega arith in
             subst M place (below_at (w - from) (omega arith) (ap (λ x. eqb x 1) (lowest.2 (w - from) (omega arith)))),
       )
+
+  -- so the answer is none where no lane is left, and else the word of the lowest
+  pub found_in_block : {P : ℕ → Type 0} (r : Option ℕ) → d < 2 ^ 64 → is_some r ≡ not (nat_eq (d / 2 ^ (from % 64)) 0)
+      → IfSome r P → ((x : ℕ) → P x → x ≡ from + count_trailing_zeros 64 (d / 2 ^ (from % 64)))
+      → MatchOption r ((w : ℕ) → from ≤ w → w < 64 * (from / 64) + 64 → M w)
+      (λ x. (from ≤ x) × (x < 64 * (from / 64) + 64) × (M x → ⊥) × ((w : ℕ) → from ≤ w → w < x → M w))
+  found_in_block None fits e h is =
+      let zero_lanes : nat_eq (d / 2 ^ (from % 64)) 0 ≡ true = not-false (nat_eq (d / 2 ^ (from % 64)) 0) (sym e) in
+      none_in_block (eqb-true (d / 2 ^ (from % 64)) 0 zero_lanes)
+  found_in_block (Some x) fits e h is =
+      let some_lanes : nat_eq (d / 2 ^ (from % 64)) 0 ≡ false = not-true (nat_eq (d / 2 ^ (from % 64)) 0) (sym e) in
+      rw (is x h) (lowest_in_block (count_trailing_zeros 64 (d / 2 ^ (from % 64))) fits (λ z. both_ways (nat_eq (d / 2 ^ (from % 64)) 0) some_lanes (ap (λ n. nat_eq n 0) z)) refl)

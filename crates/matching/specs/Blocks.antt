@@ -1,5 +1,5 @@
 -- Blocks of 64 input words, one to a lane.
-use Rattle.std.specs.Prelude.{◌≡◌, ℕ, ◌+◌, ◌-◌, ◌*◌, ◌<◌, ◌≤◌, Bool, not, List, Decides, Option, slice_index_or}
+use Rattle.std.specs.Prelude.{◌≡◌, ℕ, ◌+◌, ◌-◌, ◌*◌, ◌/◌, ◌<◌, ◌≤◌, Bool, not, List, Decides, Option, slice_index_or}
 use Rattle.std.specs.Option as options
 use Rattle.circuit.specs.Gates.{Sheet}
 use Rattle.meaning.specs.Nets.{at}
@@ -32,3 +32,7 @@ abbrev pub LowestBelow : Sheet → Sheet → ℕ → ℕ → ℕ → Option ℕ 
 LowestBelow t s setting from end o =
     options.MatchOption o ((w : ℕ) → from ≤ w → w < end → Matches t s setting w)
     (λ x. (from ≤ x) × (x < end) × (Matches t s setting x → ⊥) × ((w : ℕ) → from ≤ w → w < x → Matches t s setting w))
+
+-- the same to the end of the block in which `from` lies
+abbrev pub LowestInBlock : Sheet → Sheet → ℕ → ℕ → Option ℕ → Type 0
+LowestInBlock t s setting from o = LowestBelow t s setting from (64 * (from / 64) + 64) o

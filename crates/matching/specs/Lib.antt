@@ -2,3 +2,4 @@ pub mod Answers
 pub mod Blocks
 pub mod Samples
 pub mod Differing
+pub mod Pairs

@@ -1,10 +1,11 @@
 // A pair under a setting: which lanes and which input words differ.
-ghost use Rattle.std.specs.Prelude.{◌≡◌, ℕ, ◌+◌, ◌*◌, ◌/◌, ◌^◌, ◌<◌, ◌≤◌, true, false, not, map, length, MatchResult, Decides};
+ghost use Rattle.std.specs.Prelude.{◌≡◌, ℕ, ◌+◌, ◌*◌, ◌/◌, ◌^◌, ◌<◌, ◌≤◌, max, true, false, not, map, length, MatchResult, Decides};
 ghost use Rattle.circuit.specs.Gates.{Driven};
 ghost use Rattle.circuit.specs.View.{drawn};
 ghost use Rattle.meaning.specs.Meaning.{bit};
 ghost use Rattle.matching.specs.Answers.{alike, try_refusal, Lowest};
-ghost use Rattle.matching.specs.Blocks.{net_bit, Compared, LowestBelow};
+ghost use Rattle.matching.specs.Blocks.{net_bit, Compared, LowestInBlock};
+ghost use Rattle.matching.specs.Pairs.{of_pair};
 
 use crate::bits::check;
 use crate::lanes::{net_lanes, run};
@@ -19,6 +20,7 @@ fn unequal(a: &[u8], t: &[Word], b: &[u8], s: &[Word]) -> u64
     requires right { Driven (length s.now) b.now }
     ensures { (j : ℕ) → Decides (not (bit result j)) (map (net_bit t.now j) a.now ≡ map (net_bit s.now j) b.now) }
 {
+    // A fold would be no plainer: its closure would be this loop's body.
     let mut lanes = 0;
     for (a, b) in a.iter().zip(b) {
         lanes |= net_lanes(t, *a) ^ net_lanes(s, *b);
@@ -68,7 +70,7 @@ impl<'a> Comparison<'a> {
 
     /// The lanes of the block at whose input words the outputs differ.
     pub(crate) fn differing(&self, block: u64) -> u64
-        ensures { Compared (drawn self.now.pair.now.target) (drawn self.now.pair.now.specification) self.now.setting block result }
+        ensures { of_pair Compared self.now.pair.now self.now.setting block result }
     {
         let target = run(&self.pair.target, self.setting, block);
         let specification = run(&self.pair.specification, 0, block);
@@ -83,14 +85,10 @@ impl<'a> Comparison<'a> {
     /// The lowest input word from `from` to the end of its block at which the outputs differ.
     fn lowest_in_block(&self, from: u64) -> Option<u64>
         requires { from < 2 ^ 16 }
-        ensures { LowestBelow (drawn self.now.pair.now.target) (drawn self.now.pair.now.specification) self.now.setting from (64 * (from / 64) + 64) result }
+        ensures { of_pair LowestInBlock self.now.pair.now self.now.setting from result }
     {
         let lanes = self.differing(from / 64) >> (from % 64);
-        if lanes == 0 {
-            None
-        } else {
-            Some(from + u64::from(lanes.trailing_zeros()))
-        }
+        (lanes != 0).then(|| from + u64::from(lanes.trailing_zeros()))
     }
 
     /// How many input words there are.
@@ -103,14 +101,16 @@ impl<'a> Comparison<'a> {
 
     /// The lowest input word from `from` on at which the outputs differ.
     pub(crate) fn lowest(&self, from: u64) -> Option<u64>
-        ensures { Lowest (drawn self.now.pair.now.target) (drawn self.now.pair.now.specification) self.now.setting from result }
+        ensures { of_pair Lowest self.now.pair.now self.now.setting from result }
     {
         let end = self.words();
-        for block in from / 64..end.div_ceil(64) {
-            if let Some(found) = self.lowest_in_block(from.max(64 * block)) {
-                return if found < end { Some(found) } else { None };
-            }
-        }
-        None
+        (from / 64..end.div_ceil(64))
+            .find_map(
+                |block| -> Option<u64>
+                    requires { max from (64 * block) < 2 ^ 16 }
+                    ensures { of_pair LowestInBlock self.entry.now.pair.now self.entry.now.setting (max from (64 * block)) result }
+                { self.lowest_in_block(from.max(64 * block)) },
+            )
+            .filter(|word| *word < end)
     }
 }

@@ -18,6 +18,7 @@ fn gather(outputs: &[u8], nets: &[Word], j: u64) -> u64
     requires lane { j < 64 }
     ensures { result ≡ as_number (map (net_bit nets.now j) outputs.now) }
 {
+    // A map and a sum would be no plainer: the closure would be this loop's body.
     let mut number = 0;
     for (i, a) in outputs.iter().enumerate() {
         number += u64::from(bit_of(net_lanes(nets, *a), j)) << i;

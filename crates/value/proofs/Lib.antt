@@ -5,3 +5,4 @@ pub mod Completions
 pub mod Held
 pub mod Runs
 pub mod Exact
+pub mod Digits

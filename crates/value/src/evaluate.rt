@@ -56,6 +56,7 @@ fn taken<K: Algebra>(bit: usize, x: K) -> K
 fn and_inputs<K: Algebra + Copy>(row: K, mut number: usize, inputs: &[K]) -> K
     ensures { result ≡ and_inputs K.Algebra.ops row number inputs.now }
 {
+    // A fold would be no plainer: its state would be of two parts, the value and the bits that are left.
     let mut value = row;
     for x in inputs {
         value = value.both(taken(number % 2, *x));
@@ -69,6 +70,7 @@ fn or_rows<K: Algebra + Copy>(rows: &[K], inputs: &[K]) -> K
     requires { length rows.now ≡ 2 ^ length inputs.now }
     ensures { result ≡ table_value K.Algebra.ops (row_of K.Algebra.ops rows.now) inputs.now }
 {
+    // A fold would be no plainer: its closure would be this loop's body.
     let mut value = K::falsity();
     for (number, row) in rows.iter().enumerate() {
         value = value.either(and_inputs(*row, number, inputs));

@@ -1,25 +1,18 @@
--- Block by block: before the block there is none that differs, and the block is searched from `from` on.
-use Rattle.std.proofs.Common.{◌*◌, inl, inr, arith}
-use Rattle.std.proofs.lemmas.Bool.{cases_lt}
+-- Each block's answer tells of its words, so the first that found one found the lowest of all.
+use Rattle.std.proofs.Common.{rules, subst}
+use Rattle.circuit.specs.View.{drawn}
+use Rattle.meaning.specs.Meaning.{Matches}
+use Rattle.matching.specs.Blocks.{LowestBelow}
+use Rattle.matching.proofs.Search.{found_by}
 use Rattle.matching.proofs.comparison.Comparison.lowest.Goals as goal
 
-pub returns-then-found-end : goal.returns-then-found-end
-returns-then-found-end c =
-    let first = c.in-Some.ensures in (
-      omega arith,
-      omega arith,
-      first.2,
-      λ w low high. elim (cases_lt w (64 * c.loop-block.block)) [ inl h ↦ c.loop-block.invariant w low h | inr h ↦ first.3 w (omega arith) high ],
-    )
-
-pub returns-else-found-end : goal.returns-else-found-end
-returns-else-found-end c w low high =
-    let first = c.in-Some.ensures in
-    elim (cases_lt w (64 * c.loop-block.block)) [ inl h ↦ c.loop-block.invariant w low h | inr h ↦ first.3 w (omega arith) (omega arith) ]
-
-pub loop-block-preserved : goal.loop-block-preserved
-loop-block-preserved c w low high =
-    elim (cases_lt w (64 * c.loop-block.block)) [ inl h ↦ c.loop-block.invariant w low h | inr h ↦ c.in_default.ensures w (omega arith) (omega arith) ]
-
 pub returns : goal.returns
-returns c w low high = c.loop-block.invariant w low (omega arith)
+returns c =
+    let pair = c.args.self.now.pair.now in
+    let t = drawn pair.target in
+    let s = drawn pair.specification in
+    let setting = c.args.self.now.setting in
+    let run = c.find_map.ensures.runs in
+    subst (λ end. LowestBelow t s setting c.args.from end c.filter.result) c.words-end.ensures.all
+    (found_by (Matches t s setting) c.args.from c.words-end.result c.div_ceil.result run.0 (search rules) (search rules) c.div_ceil.ensures
+    c.find_map.result c.filter.result run.2 (search rules) (search rules) (λ x r h. search rules))
