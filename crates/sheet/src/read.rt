@@ -6,6 +6,7 @@ ghost use Rattle.circuit.specs.View.{drawn};
 ghost use Rattle.sheet_format.specs.Decoding.{gate_in, sheet_in};
 ghost use Rattle.sheet_format.specs.FirstFault.{rows_counted, sheet_fault};
 ghost use Rattle.sheet.specs.Answers.{SheetRead, PairRead, PairLoaded};
+ghost use Rattle.sheet.specs.Judged.{Judged};
 ghost use Rattle.sheet.specs.Parts.{IsRows, gates_fault_in, outputs_fault_in, net_in};
 
 use crate::length::sheet_length;
@@ -30,7 +31,7 @@ fn read_gates(
     requires few { (inputs ≤ 16) × (length rows.now ≤ 200) }
     requires empty { (gates.items ≡ []) × (vec_len gates ≡ 0) }
     requires roomy { 200 ≤ vec_capacity gates }
-    ensures { MatchResult result (λ v. (gates_fault_in role inputs rows.now ≡ None) × (v.items ≡ map gate_in rows.now)) (λ f. gates_fault_in role inputs rows.now ≡ Some f) }
+    ensures { Judged (gates_fault_in role inputs rows.now) result (λ v. v.items ≡ map gate_in rows.now) }
 {
     let mut used = 0;
     for (i, row) in rows.iter().enumerate() {
@@ -49,7 +50,7 @@ fn read_outputs(rows: &[Row], header: Header, mut outputs: Vec<u8>) -> Result<Ve
     requires few { (header.inputs ≤ 16) × (header.gates ≤ 200) × (length rows.now ≤ 16) }
     requires empty { (outputs.items ≡ []) × (vec_len outputs ≡ 0) }
     requires roomy { 16 ≤ vec_capacity outputs }
-    ensures { MatchResult result (λ v. (outputs_fault_in header.gates (header.inputs + header.gates) rows.now ≡ None) × (v.items ≡ map net_in rows.now)) (λ f. outputs_fault_in header.gates (header.inputs + header.gates) rows.now ≡ Some f) }
+    ensures { Judged (outputs_fault_in header.gates (header.inputs + header.gates) rows.now) result (λ v. v.items ≡ map net_in rows.now) }
 {
     let nets = u32::from(header.inputs) + header.gates as u32;
     let above = header.gates as u16 + 2;
@@ -87,7 +88,7 @@ fn check_count(role: Role, wanted: usize, given: usize) -> Result<(), Fault>
 
 /// The circuit of a sheet in that role. The bytes alone decide what is answered.
 fn read_part(bytes: &[u8], role: Role, room: Room) -> Result<Circuit, Fault>
-    ensures { MatchResult result (λ c. (sheet_fault role bytes.now ≡ None) × (drawn c ≡ sheet_in bytes.now)) (λ f. sheet_fault role bytes.now ≡ Some f) }
+    ensures { Judged (sheet_fault role bytes.now) result (λ c. drawn c ≡ sheet_in bytes.now) }
 {
     let rows = whole_rows(bytes)?;
     let header = read_header(&rows[0]).map_err(|fault| fault.in_row(1))?;
