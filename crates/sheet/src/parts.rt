@@ -1,5 +1,5 @@
 // The rows of a sheet by what they say: its header, a gate, an output.
-ghost use Rattle.std.specs.Prelude.{◌≡◌, ℕ, List, IsSomeAnd, ◌+◌, ◌≤◌, true, false, Some, None, MatchResult};
+ghost use Rattle.std.specs.Prelude.{◌≡◌, ℕ, List, IsSomeAnd, ◌+◌, ◌≤◌, true, false, Some, MatchResult};
 ghost use Rattle.refusal.specs.Faults.{fault_at};
 ghost use Rattle.refusal.specs.declared.refusal.Refusal.TheVariants.{Letter};
 ghost use Rattle.circuit.specs.Gates.{own_rows};

@@ -1,5 +1,5 @@
 // Sheets and pairs, read from their bytes.
-ghost use Rattle.std.specs.Prelude.{◌≡◌, ◌+◌, ◌%◌, ◌<◌, ◌≤◌, true, false, [], length, map, Some, None, vec_len, vec_capacity, MatchResult};
+ghost use Rattle.std.specs.Prelude.{◌≡◌, ◌+◌, ◌%◌, ◌<◌, ◌≤◌, true, false, length, map, MatchResult};
 ghost use Rattle.refusal.specs.Faults.{fault_at};
 ghost use Rattle.refusal.specs.declared.refusal.Refusal.TheVariants.{Length, RowCount};
 ghost use Rattle.circuit.specs.View.{drawn};
@@ -11,7 +11,7 @@ ghost use Rattle.sheet.specs.Parts.{IsRows, gates_fault_in, outputs_fault_in, ne
 
 use crate::length::sheet_length;
 use crate::parts::{Header, read_gate, read_header, read_output};
-use crate::room::{PairRoom, Room};
+use crate::room::{PairRoom, Room, Space};
 use circuit::circuit::Circuit;
 use circuit::gate::Gate;
 use circuit::pair::Pair;
@@ -26,13 +26,12 @@ fn read_gates(
     rows: &[Row],
     role: Role,
     inputs: u8,
-    mut gates: Vec<Gate>,
+    space: Space<Gate, 200>,
 ) -> Result<Vec<Gate>, Fault>
     requires few { (inputs ≤ 16) × (length rows.now ≤ 200) }
-    requires empty { (gates.items ≡ []) × (vec_len gates ≡ 0) }
-    requires roomy { 200 ≤ vec_capacity gates }
     ensures { Judged (gates_fault_in role inputs rows.now) result (λ v. v.items ≡ map gate_in rows.now) }
 {
+    let mut gates = space.items;
     let mut used = 0;
     for (i, row) in rows.iter().enumerate() {
         let own = u32::from(inputs) + i as u32 + 1;
@@ -46,12 +45,11 @@ fn read_gates(
 /// The outputs that these rows say, in order, below the rows of the header's gates.
 // No one function with `read_gates`: a gate hands the rows used so far to the next, so a closure that reads a row would
 // have a state, and a bound on it would be asked at each call; what the two loops share is a `?` and a push.
-fn read_outputs(rows: &[Row], header: Header, mut outputs: Vec<u8>) -> Result<Vec<u8>, Fault>
+fn read_outputs(rows: &[Row], header: Header, space: Space<u8, 16>) -> Result<Vec<u8>, Fault>
     requires few { (header.inputs ≤ 16) × (header.gates ≤ 200) × (length rows.now ≤ 16) }
-    requires empty { (outputs.items ≡ []) × (vec_len outputs ≡ 0) }
-    requires roomy { 16 ≤ vec_capacity outputs }
     ensures { Judged (outputs_fault_in header.gates (header.inputs + header.gates) rows.now) result (λ v. v.items ≡ map net_in rows.now) }
 {
+    let mut outputs = space.items;
     let nets = u32::from(header.inputs) + header.gates as u32;
     let above = header.gates as u16 + 2;
     for (j, row) in rows.iter().enumerate() {

@@ -1,5 +1,5 @@
 // One row: its line feed, its letter, and its fields from the left.
-ghost use Rattle.std.specs.Prelude.{◌≡◌, ◌<◌, Some, None, MatchResult, ◌==◌, ◌≢◌, slice_index};
+ghost use Rattle.std.specs.Prelude.{◌≡◌, ◌<◌, MatchResult, ◌==◌, ◌≢◌, slice_index};
 ghost use Rattle.refusal.specs.Faults.{fault_at};
 ghost use Rattle.refusal.specs.declared.refusal.Refusal.TheVariants.{LineFeed};
 ghost use Rattle.sheet_format.specs.Decoding.{letter, fields_of};
