@@ -2,6 +2,7 @@
 ghost use Rattle.std.specs.Prelude.{◌≡◌, ◌&&◌, nat_le};
 
 /// The numbers that a field may hold, from the lowest to the highest.
+// No `RangeInclusive<u32>`: a range is not `Copy`, so a `Shape` of six would not be, nor could one range stand at each of five fields.
 #[derive(Clone, Copy, Debug, PartialEq, Eq)]
 pub struct Bounds {
     pub low: u32,

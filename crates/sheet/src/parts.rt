@@ -1,11 +1,12 @@
 // The rows of a sheet by what they say: its header, a gate, an output.
-ghost use Rattle.std.specs.Prelude.{◌≡◌, ℕ, List, IsSomeAnd, ◌+◌, ◌≤◌, true, false, Some, None, MatchResult};
+ghost use Rattle.std.specs.Prelude.{◌≡◌, ℕ, List, IsSomeAnd, ◌+◌, ◌≤◌, true, false, Some, MatchResult};
 ghost use Rattle.refusal.specs.Faults.{fault_at};
 ghost use Rattle.refusal.specs.declared.refusal.Refusal.TheVariants.{Letter};
 ghost use Rattle.circuit.specs.Gates.{own_rows};
 ghost use Rattle.sheet_format.specs.Shapes.{header_shape, gate_shape, output_shape};
 ghost use Rattle.sheet_format.specs.Decoding.{number, fields_of, kind_named, gate_in, gate_from};
 ghost use Rattle.sheet_format.specs.FirstFault.{header_fault, gate_fault, output_fault, names_gate};
+ghost use Rattle.sheet.specs.Judged.{Judged};
 ghost use Rattle.sheet.specs.Parts.{GateFields, Headed};
 
 use crate::rows::{Fields, read_fields, read_letter, read_lettered};
@@ -91,7 +92,7 @@ fn number_in(field: Option<u32>) -> u8
 
 /// The header of a sheet.
 pub(crate) fn read_header(row: &Row) -> Result<Header, Fault>
-    ensures { MatchResult result (λ h. (header_fault row.now ≡ None) × Headed row.now h) (λ f. header_fault row.now ≡ Some f) }
+    ensures { Judged (header_fault row.now) result (λ h. Headed row.now h) }
 {
     let fields = read_lettered(row, b'H', &shape_of_header())?;
     let [inputs, gates, outputs, ..] = fields;
@@ -105,7 +106,7 @@ pub(crate) fn read_header(row: &Row) -> Result<Header, Fault>
 /// The net of an output, one of the first `nets`.
 pub(crate) fn read_output(row: &Row, nets: u32) -> Result<u8, Fault>
     requires { nets ≤ 216 }
-    ensures { MatchResult result (λ net. (output_fault nets row.now ≡ None) × (net ≡ number 0 (fields_of row.now))) (λ f. output_fault nets row.now ≡ Some f) }
+    ensures { Judged (output_fault nets row.now) result (λ net. net ≡ number 0 (fields_of row.now)) }
 {
     let [net, ..] = read_lettered(row, b'Q', &shape_of_output(nets))?;
     Ok(number_in(net))
@@ -132,7 +133,7 @@ fn gate_of(kind: Kind, fields: Fields) -> Gate
 /// The gate that drives net `own`, where the tables above have `before` rows.
 pub(crate) fn read_gate(row: &Row, role: Role, own: u32, before: usize) -> Result<Gate, Fault>
     requires { (1 ≤ own) × ((own ≤ 216) × (before ≤ 64)) }
-    ensures { MatchResult result (λ g. (gate_fault role own before row.now ≡ None) × (g ≡ gate_in row.now) × (before + own_rows g ≤ 64)) (λ f. gate_fault role own before row.now ≡ Some f) }
+    ensures { Judged (gate_fault role own before row.now) result (λ g. (g ≡ gate_in row.now) × (before + own_rows g ≤ 64)) }
 {
     let letter = read_letter(row)?;
     let kind = read_kind(letter, role)?;

@@ -1,16 +1,17 @@
 // Sheets and pairs, read from their bytes.
-ghost use Rattle.std.specs.Prelude.{◌≡◌, ◌+◌, ◌%◌, ◌<◌, ◌≤◌, true, false, [], length, map, Some, None, vec_len, vec_capacity, MatchResult};
+ghost use Rattle.std.specs.Prelude.{◌≡◌, ◌+◌, ◌%◌, ◌<◌, ◌≤◌, true, false, length, map, MatchResult};
 ghost use Rattle.refusal.specs.Faults.{fault_at};
 ghost use Rattle.refusal.specs.declared.refusal.Refusal.TheVariants.{Length, RowCount};
 ghost use Rattle.circuit.specs.View.{drawn};
 ghost use Rattle.sheet_format.specs.Decoding.{gate_in, sheet_in};
 ghost use Rattle.sheet_format.specs.FirstFault.{rows_counted, sheet_fault};
 ghost use Rattle.sheet.specs.Answers.{SheetRead, PairRead, PairLoaded};
+ghost use Rattle.sheet.specs.Judged.{Judged};
 ghost use Rattle.sheet.specs.Parts.{IsRows, gates_fault_in, outputs_fault_in, net_in};
 
 use crate::length::sheet_length;
 use crate::parts::{Header, read_gate, read_header, read_output};
-use crate::room::{PairRoom, Room};
+use crate::room::{PairRoom, Room, Space};
 use circuit::circuit::Circuit;
 use circuit::gate::Gate;
 use circuit::pair::Pair;
@@ -25,13 +26,12 @@ fn read_gates(
     rows: &[Row],
     role: Role,
     inputs: u8,
-    mut gates: Vec<Gate>,
+    space: Space<Gate, 200>,
 ) -> Result<Vec<Gate>, Fault>
     requires few { (inputs ≤ 16) × (length rows.now ≤ 200) }
-    requires empty { (gates.items ≡ []) × (vec_len gates ≡ 0) }
-    requires roomy { 200 ≤ vec_capacity gates }
-    ensures { MatchResult result (λ v. (gates_fault_in role inputs rows.now ≡ None) × (v.items ≡ map gate_in rows.now)) (λ f. gates_fault_in role inputs rows.now ≡ Some f) }
+    ensures { Judged (gates_fault_in role inputs rows.now) result (λ v. v.items ≡ map gate_in rows.now) }
 {
+    let mut gates = space.items;
     let mut used = 0;
     for (i, row) in rows.iter().enumerate() {
         let own = u32::from(inputs) + i as u32 + 1;
@@ -45,12 +45,11 @@ fn read_gates(
 /// The outputs that these rows say, in order, below the rows of the header's gates.
 // No one function with `read_gates`: a gate hands the rows used so far to the next, so a closure that reads a row would
 // have a state, and a bound on it would be asked at each call; what the two loops share is a `?` and a push.
-fn read_outputs(rows: &[Row], header: Header, mut outputs: Vec<u8>) -> Result<Vec<u8>, Fault>
+fn read_outputs(rows: &[Row], header: Header, space: Space<u8, 16>) -> Result<Vec<u8>, Fault>
     requires few { (header.inputs ≤ 16) × (header.gates ≤ 200) × (length rows.now ≤ 16) }
-    requires empty { (outputs.items ≡ []) × (vec_len outputs ≡ 0) }
-    requires roomy { 16 ≤ vec_capacity outputs }
-    ensures { MatchResult result (λ v. (outputs_fault_in header.gates (header.inputs + header.gates) rows.now ≡ None) × (v.items ≡ map net_in rows.now)) (λ f. outputs_fault_in header.gates (header.inputs + header.gates) rows.now ≡ Some f) }
+    ensures { Judged (outputs_fault_in header.gates (header.inputs + header.gates) rows.now) result (λ v. v.items ≡ map net_in rows.now) }
 {
+    let mut outputs = space.items;
     let nets = u32::from(header.inputs) + header.gates as u32;
     let above = header.gates as u16 + 2;
     for (j, row) in rows.iter().enumerate() {
@@ -87,7 +86,7 @@ fn check_count(role: Role, wanted: usize, given: usize) -> Result<(), Fault>
 
 /// The circuit of a sheet in that role. The bytes alone decide what is answered.
 fn read_part(bytes: &[u8], role: Role, room: Room) -> Result<Circuit, Fault>
-    ensures { MatchResult result (λ c. (sheet_fault role bytes.now ≡ None) × (drawn c ≡ sheet_in bytes.now)) (λ f. sheet_fault role bytes.now ≡ Some f) }
+    ensures { Judged (sheet_fault role bytes.now) result (λ c. drawn c ≡ sheet_in bytes.now) }
 {
     let rows = whole_rows(bytes)?;
     let header = read_header(&rows[0]).map_err(|fault| fault.in_row(1))?;

@@ -4,17 +4,28 @@ ghost use Rattle.refusal.specs.declared.refusal.Refusal.TheVariants.{NoMemory};
 
 use circuit::gate::Gate;
 use refusal::refusal::Refusal;
-use std::alloc::Global;
+use std::alloc::{AllocError, Global};
+
+/// Empty, with memory for `N` items.
+#[derive(Drop)]
+pub(crate) struct Space<T, const N: usize> {
+    pub(crate) items: Vec<T>,
+    ghost empty: { (items.items ≡ []) × (vec_len items ≡ 0) },
+    ghost roomy: { N ≤ vec_capacity items },
+}
+
+impl<T, const N: usize> Space<T, N> {
+    fn new(heap: Global) -> Result<Space<T, N>, AllocError> {
+        let items = Vec::with_capacity(heap, N)?;
+        Ok(Space { items })
+    }
+}
 
 /// Memory for one circuit, enough for any lawful one. Reading takes it, so that only this can fail for want of memory.
 #[derive(Drop)]
 pub struct Room {
-    pub(crate) gates: Vec<Gate>,
-    pub(crate) outputs: Vec<u8>,
-    ghost no_gates: { (gates.items ≡ []) × (vec_len gates ≡ 0) },
-    ghost no_outputs: { (outputs.items ≡ []) × (vec_len outputs ≡ 0) },
-    ghost gates_fit: { 200 ≤ vec_capacity gates },
-    ghost outputs_fit: { 16 ≤ vec_capacity outputs },
+    pub(crate) gates: Space<Gate, 200>,
+    pub(crate) outputs: Space<u8, 16>,
 }
 
 impl Room {
@@ -22,8 +33,8 @@ impl Room {
     pub fn new(heap: Global) -> Result<Room, Refusal>
         ensures { IfErr result (λ e. e ≡ NoMemory) }
     {
-        let gates = Vec::with_capacity(heap, 200)?;
-        let outputs = Vec::with_capacity(heap, 16)?;
+        let gates = Space::new(heap)?;
+        let outputs = Space::new(heap)?;
         Ok(Room { gates, outputs })
     }
 }

@@ -1,9 +1,10 @@
 // One row: its line feed, its letter, and its fields from the left.
-ghost use Rattle.std.specs.Prelude.{◌≡◌, ◌<◌, Some, None, MatchResult, ◌==◌, ◌≢◌, slice_index};
+ghost use Rattle.std.specs.Prelude.{◌≡◌, ◌<◌, MatchResult, ◌==◌, ◌≢◌, slice_index};
 ghost use Rattle.refusal.specs.Faults.{fault_at};
 ghost use Rattle.refusal.specs.declared.refusal.Refusal.TheVariants.{LineFeed};
 ghost use Rattle.sheet_format.specs.Decoding.{letter, fields_of};
 ghost use Rattle.sheet_format.specs.FirstFault.{field_fault, fields_fault, row_fault};
+ghost use Rattle.sheet.specs.Judged.{Judged};
 ghost use Rattle.sheet.specs.Parts.{field_option, options};
 
 use layout::field::{Columns, read_columns};
@@ -28,7 +29,7 @@ pub(crate) fn read_letter(row: &Row) -> Result<u8, Fault>
 /// Field j of a row, where `before` of the fields before it are filled: its form, then its range.
 fn read_field(text: Columns, j: usize, before: usize, shape: &Shape) -> Result<Option<u32>, Fault>
     requires { j < 6 }
-    ensures { MatchResult result (λ v. (field_fault shape.now j before text ≡ None) × (v ≡ field_option text)) (λ f. field_fault shape.now j before text ≡ Some f) }
+    ensures { Judged (field_fault shape.now j before text) result (λ v. v ≡ field_option text) }
 {
     let column = 2 + 5 * j as u8;
     let value = read_columns(text).map_err(|refusal| Fault::at(refusal, column))?;
@@ -52,7 +53,7 @@ fn read_field(text: Columns, j: usize, before: usize, shape: &Shape) -> Result<O
 
 /// The six fields of a row, each taken apart in turn from the left.
 pub(crate) fn read_fields(row: &Row, shape: &Shape) -> Result<Fields, Fault>
-    ensures { MatchResult result (λ v. (fields_fault shape.now (fields_of row.now) ≡ None) × (v ≡ options (fields_of row.now))) (λ f. fields_fault shape.now (fields_of row.now) ≡ Some f) }
+    ensures { Judged (fields_fault shape.now (fields_of row.now)) result (λ v. v ≡ options (fields_of row.now)) }
 {
     let (columns, _) = row[1..31].as_chunks::<5>();
     let mut fields = [None; 6];
@@ -67,7 +68,7 @@ pub(crate) fn read_fields(row: &Row, shape: &Shape) -> Result<Fields, Fault>
 
 /// The fields of a row that begins with that letter.
 pub(crate) fn read_lettered(row: &Row, wanted: u8, shape: &Shape) -> Result<Fields, Fault>
-    ensures { MatchResult result (λ v. (row_fault (letter row.now == wanted) shape.now row.now ≡ None) × (v ≡ options (fields_of row.now))) (λ f. row_fault (letter row.now == wanted) shape.now row.now ≡ Some f) }
+    ensures { Judged (row_fault (letter row.now == wanted) shape.now row.now) result (λ v. v ≡ options (fields_of row.now)) }
 {
     if read_letter(row)? != wanted {
         return Err(Fault::at(Refusal::Letter, 1));

@@ -64,6 +64,7 @@ trait InRows {
         ensures { result ≡ length (text self.now) };
 
     /// Puts the rows at a buffer's front.
+    // It asks for the room, as the trait is private and `write` has looked: asking nothing, each `put` would look again.
     fn put(&self, into: &mut [u8])
         requires { length (text self.now) ≤ length into.old }
         ensures { into.new ≡ laid into.old 0 (text self.now) };

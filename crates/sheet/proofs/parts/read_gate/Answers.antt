@@ -60,4 +60,4 @@ returns c =
     let are = gate_fields c.args.own c.in_ok-kind.kind (fields_of row) c.in_ok-fields.fields (omega arith) v.0 v.1 in
     let gate = gate_is c.args.role c.args.own c.args.before row c.in_ok-kind.kind _ h.0 h.1 k.0 k.1 c.gate_of-gate.result (c.gate_of-gate.ensures _ _ are) in
     let rows = c.rows.ensures ∙ ap own_rows gate in
-    (few_enough c.args.role c.args.own c.args.before row none (omega arith), gate, omega arith)
+    (few_enough c.args.role c.args.own c.args.before row none (omega arith), (gate, omega arith))

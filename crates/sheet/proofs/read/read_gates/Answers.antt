@@ -24,4 +24,4 @@ loop-i-preserved c =
     let e = MatchResult-at_ok _ _ c.in_ok-gate.gate is c.read_gate.ensures in
     let own = ap (λ n. n + c.loop-i.i-counter + 1) c.from.ensures in
     gate_more c.args.role c.args.inputs c.args.rows.now _ _ _ c.loop-i.used c.loop-i.i-counter _ c.loop-i.invariant c.loop-i-test.true own
-    _ c.in_ok-gate.gate _ _ _ e.0 e.1 e.2 c.rows-used.ensures c.push_reserved.ensures.items c.push_reserved.ensures.len c.push_reserved.ensures.capacity
+    _ c.in_ok-gate.gate _ _ _ e.0 e.1.0 e.1.1 c.rows-used.ensures c.push_reserved.ensures.items c.push_reserved.ensures.len c.push_reserved.ensures.capacity
