@@ -80,12 +80,8 @@ pub(crate) fn store(slots: &mut [Slot], words: &mut Vec<Word>, clause: &[Literal
     ensures entries { entries_of slots.new ≡ entries_of slots.old }
 {
     let head = words.len();
-    let count = Literal {
-        variable: clause.len(),
-        negated: false,
-    };
     words.push_reserved(Word {
-        literal: count,
+        literal: clause::memory::head(clause.len()),
         head,
         older: None,
     });

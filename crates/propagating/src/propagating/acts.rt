@@ -82,6 +82,7 @@ impl Engine for Propagating {
 
     fn step(&mut self) -> Result<Answer, Refusal> {
         self.control.count_step()?;
+        // A `match` on the phase: each of its four cases is one line, and would be one as a closure.
         let answer = match self.control.phase {
             Phase::Model => Answer::Model,
             Phase::Unsatisfiable => Answer::Unsatisfiable,

@@ -29,7 +29,7 @@ returns c =
     let inv = c.loop-literal.invariant in
     let first = c.push_reserved.ensures in
     record {
-      literals = store_literals _ _ _ _ c.args.clause.now c.loop-literal.literal-index first.items refl c.loop-literal-test.false inv.0;
+      literals = store_literals _ _ _ _ c.args.clause.now c.loop-literal.literal-index first.items c.head.ensures c.loop-literal-test.false inv.0;
       heads = store_heads _ _ _ _ c.len-head.result c.loop-literal.literal-index (length c.args.clause.now) first.items refl (omega arith) inv.1 ∙ ap (λ u. heads_of c.args.words.now.items ++ replicate (1 + length c.args.clause.now) u) c.len-head.ensures;
       room = inv.4 ∙ first.capacity;
       values = inv.5;
