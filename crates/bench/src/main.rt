@@ -31,6 +31,7 @@ impl Measured for Word {
 
 /// Writes the bits of a number, each in every lane of its place.
 fn put<K: Copy + From<bool>>(number: u64, places: &mut [K]) {
+    // A fold would be no plainer: its state would be the bits that are left.
     let mut left = number;
     for place in places.iter_mut() {
         *place = K::from(left & 1 == 1);

@@ -17,6 +17,7 @@ pub struct Counting {
     row: Vec<bool>,
     words: Vec<Literal>,
     control: Control,
+    // No vector bound to its places by a type: it would need a maker, growth, pushes and reads of its own, with contracts, for these two lines.
     ghost row_room: { (vec_len row ≤ control.places.variables) × (control.places.variables ≤ vec_capacity row) },
     ghost word_room: { (vec_len words ≤ control.places.words) × (control.places.words ≤ vec_capacity words) },
     ghost coded: { encode (clauses_of words.items) ≡ words.items },

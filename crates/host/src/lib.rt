@@ -31,7 +31,7 @@ pub fn rectifier_match(heap: Global, pair: &[u8], setting: u64, word: u64) -> u3
 }
 
 /// 0 for a pair that was read, or the number of its fault.
-// A number, as C takes it.
+// A number, since the public call answers it to C.
 fn read_code(answer: &Result<Pair, Fault>) -> u32
     ensures { MatchResult answer.now (λ _. result ≡ 0) (λ f. result ≡ number_of f.refusal) }
 {
@@ -42,7 +42,7 @@ fn read_code(answer: &Result<Pair, Fault>) -> u32
 }
 
 /// 100 for yes, 101 for no, or the number of the refusal.
-// A number, as C takes it.
+// A number, since the public call answers it to C.
 fn match_code(pair: &Pair, setting: u64, word: u64) -> u32
     ensures { Compared (drawn pair.now.target) (drawn pair.now.specification) setting word result }
 {

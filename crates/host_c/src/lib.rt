@@ -1,5 +1,5 @@
 // The static library of a C host: the two calls of `host`, exported by their names (include/rectifier.h).
-// The same two calls stand in both crates, since Rattle code cannot call what a static library exports.
+// Their answers are numbers, as C takes them. The same two calls stand in both crates, since Rattle code cannot call what a static library exports.
 #![tactic(auto)]
 
 ghost use Rattle.host.specs.Codes.{ReadCode, MatchCode};

@@ -58,6 +58,7 @@ pub(crate) fn run(circuit: &Circuit, setting: u64, block: u64) -> [Word; MOST_NE
 }
 
 /// The lanes of net `a`.
+// The look at a net stands in `value` too, where it asks that the net be there, and so is no public call.
 pub(crate) fn net_lanes(nets: &[Word], a: u8) -> u64
     requires { (1 ≤ a) × (a ≤ length nets.now) }
     ensures { result ≡ (at no_lanes nets.now a).bits }

@@ -34,6 +34,7 @@ pub(crate) fn choose(slots: &[Slot], from: usize) -> Option<usize>
     ensures { MatchOption result ((j : ℕ) → j < length (values_of slots.now) → slice_index_or (values_of slots.now) j None ≢ None) (λ i. (i < length slots.now) × (slice_index_or (values_of slots.now) i None ≡ None)) }
 {
     let middle = from.min(slots.len());
+    // By a `match`: of `map` and `or_else` over the two parts the check found no proof.
     match first_open(&slots[middle..]) {
         Some(i) => Some(middle + i),
         None => first_open(&slots[..middle]),

@@ -29,6 +29,7 @@ pub struct Slot {
 #[derive(Clone, Copy, Debug, PartialEq, Eq)]
 pub struct Word {
     pub literal: Literal,
+    // By place, as in a slot: the memory is fixed, and no call allocates.
     pub head: usize,
     pub older: Option<usize>,
 }

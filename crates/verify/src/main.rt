@@ -39,6 +39,8 @@ fn count(pair: &Pair, setting: u64) -> Result<usize, Refusal>
     Ok(differences(pair, setting)?.count())
 }
 
+// A pair and a setting are handed on as two: a struct of them would hold what `matching` makes of them at each call.
+
 /// What the target gives at the word, and what the specification wants.
 fn print_word(rt: &HostRuntime, pair: &Pair, setting: u64, word: u64) -> io::Result<()> {
     match (

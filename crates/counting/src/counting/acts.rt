@@ -80,7 +80,7 @@ impl Engine for Counting {
     /// Cost: one row of values is tried, with at most one look at each literal of the formula.
     fn step(&mut self) -> Result<Answer, Refusal> {
         self.control.count_step()?;
-        // A `match` on the phase: each of its four cases is one line, and would be one as a closure.
+        // A `match` on the phase: each case is a call or two, and as a closure it would be the same calls behind a name.
         let answer = match self.control.phase {
             Phase::Idle => {
                 self.begin();

@@ -103,6 +103,7 @@ impl Values for Search {
     ghost row = { λ s. row_of (values_in s) };
 
     fn value(&self, variable: usize) -> bool {
+        // By a `match`: with `and_then` the proof did not close.
         match self.slots.get(variable.saturating_sub(1)) {
             Some(slot) => slot.value.unwrap_or(false),
             None => false,
