@@ -104,6 +104,9 @@ impl<'a> Comparison<'a> {
         ensures { of_pair Lowest self.now.pair.now self.now.setting from result }
     {
         let end = self.words();
+        if from >= end {
+            return None;
+        }
         (from / 64..end.div_ceil(64))
             .find_map(
                 |block| -> Option<u64>
