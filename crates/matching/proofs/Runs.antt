@@ -1,18 +1,16 @@
--- An array made by a closure that changes nothing: each element is what one call of the closure may give.
-use Rattle.std.proofs.Common.{◌≡◌, ℕ, zero, suc, ◌+◌, ◌<◌, ◌≤◌, List, get_or, sym, subst, inl, inr, arith}
-use denote.Param.Members.{Mut, Called}
-use Rattle.std.specs.Array.{IsFromFnResult, IsFromFnResultFrom}
-use Rattle.std.proofs.lemmas.Bool.{cases_eq}
+-- Values that are written one after another, each with its bit of every lane's number, hold the numbers' bits.
+use Rattle.std.proofs.Common.{◌≡◌, ℕ, ◌+◌, ◌<◌, ◌≢◌, List, length, get_or, set, ap, ◌∙◌, arith, below_more}
+use Rattle.std.proofs.lemmas.List.{get_or-set_same, get_or-set_other}
+use Rattle.meaning.specs.Meaning.{bit}
+use Rattle.value.specs.declared.word.Word.{Word}
 
-module _ {F B : Type 0} (g : Mut F (ℕ × Unit {0}) B) (P : ℕ → B → Type 0) (f : F) (last : ℕ) (call : (i : ℕ) (y : B) (f' : F) → i < last → Called g f (i, tt) y f' → P i y × (f' ≡ f)) where
-  made_from : (ys : List B) (i n : ℕ) → i + n ≤ last → IsFromFnResultFrom g f ys i n → (k : ℕ) (d : B) → i ≤ k → k < i + n → P k (get_or ys k d)
-  made_from ys i zero all made k d low high = absurd (omega arith)
-  made_from ys i (suc n) all made k d low high =
-      let here = call i made.1 made.0 (omega arith) made.3 in
-      elim (cases_eq k i) [
-        | inl e ↦ subst (λ m. P m (get_or ys m d)) (sym e) (subst (P i) (sym (made.2.1 d)) here.0)
-        | inr ne ↦ made_from ys (i + 1) n (omega arith) (subst (λ p. IsFromFnResultFrom g p ys (i + 1) n) here.1 made.4) k d (omega (arith, ne)) (omega arith)
-      ]
+-- the values before place i hold the bits of the numbers w
+abbrev pub Front : List Word → ℕ → (ℕ → ℕ) → Type 0
+Front xs i w = (k j : ℕ) (d : Word) → k < i → j < 64 → bit (get_or xs k d).bits j ≡ bit (w j) k
 
-  pub made_by : (ys : List B) → IsFromFnResult g f ys last → (k : ℕ) (d : B) → k < last → P k (get_or ys k d)
-  made_by ys made k d small = made_from ys 0 last (omega arith) made.each k d (omega arith) (omega arith)
+pub front_more : (xs : List Word) (i : ℕ) (v : Word) (w : ℕ → ℕ) → i < length xs → Front xs i w → ((j : ℕ) → j < 64 → bit v.bits j ≡ bit (w j) i) → Front (set xs i v) (i + 1) w
+front_more xs i v w within front here k j d below small =
+    below_more (λ k. bit (get_or (set xs i v) k d).bits j ≡ bit (w j) k) i
+    (λ k h. let ne : k ≢ i = omega arith in ap (λ x. bit x.bits j) (get_or-set_other xs i k v d ne) ∙ front k j d h small)
+    (ap (λ x. bit x.bits j) (get_or-set_same xs i v d within) ∙ here j small)
+    k below

@@ -8,9 +8,10 @@ ghost use Rattle.matching.specs.Blocks.{net_bit, Compared, LowestInBlock};
 ghost use Rattle.matching.specs.Pairs.{of_pair};
 
 use crate::bits::check;
-use crate::lanes::{net_lanes, run};
+use crate::lanes::{MOST_NETS, net_lanes, run};
 use circuit::pair::Pair;
 use refusal::refusal::Refusal;
+use value::kind::Algebra;
 use value::word::Word;
 
 /// The lanes in which some output `a` of the nets `t` is not the like output `b` of the nets `s`.
@@ -72,8 +73,10 @@ impl<'a> Comparison<'a> {
     pub(crate) fn differing(&self, block: u64) -> u64
         ensures { of_pair Compared self.now.pair.now self.now.setting block result }
     {
-        let target = run(&self.pair.target, self.setting, block);
-        let specification = run(&self.pair.specification, 0, block);
+        let mut target = [Word::falsity(); MOST_NETS];
+        run(&self.pair.target, self.setting, block, &mut target);
+        let mut specification = [Word::falsity(); MOST_NETS];
+        run(&self.pair.specification, 0, block, &mut specification);
         unequal(
             self.pair.target.outputs.as_slice(),
             &target,

@@ -7,7 +7,6 @@ ghost use Rattle.matching.specs.Blocks.{lane_word, HoldNets, no_lanes};
 
 use crate::bits::bit_of;
 use circuit::circuit::Circuit;
-use std::array;
 use value::evaluate::evaluate;
 use value::kind::Algebra;
 use value::word::Word;
@@ -19,7 +18,7 @@ const MOST_ROWS: usize = 64;
 const MOST_INPUTS: usize = 16;
 
 /// The most nets of a circuit.
-const MOST_NETS: usize = 216;
+pub(crate) const MOST_NETS: usize = 216;
 
 /// Bit i of the numbers 0 to 63, for each i below 6.
 const COUNTING: [u64; 6] = [
@@ -43,18 +42,23 @@ fn input_lanes(i: usize, block: u64) -> Word
     }
 }
 
-/// The values of all nets under the setting at every input word of the block.
+/// Writes the values of all nets under the setting at every input word of the block.
 // A call allocates nothing: the arrays are as long as any circuit needs, and `evaluate` takes the front that is this circuit's.
-pub(crate) fn run(circuit: &Circuit, setting: u64, block: u64) -> [Word; MOST_NETS]
-    ensures { HoldNets (drawn circuit.now) setting block result }
+// Nor is an array copied: the caller's is filled in place, and so are the rows and inputs, which `array::from_fn` would copy.
+pub(crate) fn run(circuit: &Circuit, setting: u64, block: u64, nets: &mut [Word; MOST_NETS])
+    ensures { HoldNets (drawn circuit.now) setting block nets.new }
 {
-    let rows: [Word; MOST_ROWS] = array::from_fn(|i| Word::from(bit_of(setting, i as u64)));
-    let inputs: [Word; MOST_INPUTS] = array::from_fn(|i| input_lanes(i, block));
-    let mut nets = [Word::falsity(); MOST_NETS];
+    let mut rows = [Word::falsity(); MOST_ROWS];
+    for (r, row) in rows.iter_mut().enumerate() {
+        *row = Word::from(bit_of(setting, r as u64));
+    }
+    let mut inputs = [Word::falsity(); MOST_INPUTS];
+    for (i, input) in inputs.iter_mut().enumerate() {
+        *input = input_lanes(i, block);
+    }
     let m = circuit.rows();
     let n = usize::from(circuit.inputs);
-    let _ = evaluate(circuit, &rows[..m], &inputs[..n], &mut nets);
-    nets
+    let _ = evaluate(circuit, &rows[..m], &inputs[..n], nets);
 }
 
 /// The lanes of net `a`.

@@ -6,9 +6,10 @@ ghost use Rattle.matching.specs.Answers.{Numbered, as_number};
 ghost use Rattle.matching.specs.Blocks.{net_bit};
 
 use crate::bits::{bit_of, check};
-use crate::lanes::{net_lanes, run};
+use crate::lanes::{MOST_NETS, net_lanes, run};
 use circuit::circuit::Circuit;
 use refusal::refusal::Refusal;
+use value::kind::Algebra;
 use value::word::Word;
 
 /// Lane `j` of each of the outputs, as one number, the first output the lowest bit.
@@ -33,6 +34,7 @@ pub fn outputs(circuit: &Circuit, setting: u64, word: u64) -> Result<u64, Refusa
 {
     check(word, usize::from(circuit.inputs), Refusal::WordRange)?;
     check(setting, circuit.rows(), Refusal::SettingRange)?;
-    let nets = run(circuit, setting, word / 64);
+    let mut nets = [Word::falsity(); MOST_NETS];
+    run(circuit, setting, word / 64, &mut nets);
     Ok(gather(circuit.outputs.as_slice(), &nets, word % 64))
 }

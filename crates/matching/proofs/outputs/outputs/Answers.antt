@@ -14,9 +14,9 @@ returns c =
     let s = drawn circuit in
     let setting = c.args.setting in
     let word = c.args.word in
-    let nets = c.run-nets.result in
+    let nets = c.run.new.nets in
     let place : 64 * (word / 64) + word % 64 ≡ word = omega arith in
-    let shown = ap (map (net_bit nets (word % 64))) c.as_slice.ensures.value ∙ outputs_held s setting (word / 64) nets circuit.driven c.run-nets.ensures (word % 64) (omega arith) ∙ ap (outputs_at s setting) place in (
+    let shown = ap (map (net_bit nets (word % 64))) c.as_slice.ensures.value ∙ outputs_held s setting (word / 64) nets circuit.driven c.run.ensures (word % 64) (omega arith) ∙ ap (outputs_at s setting) place in (
       cond-true _ _ _ (in_range word _ _ c.from.ensures c.in_ok-check.ensures) ∙ cond-true _ _ _ (in_range setting _ _ c.rows.ensures c.in_ok-check-2.ensures),
       c.gather.ensures ∙ ap as_number shown,
     )
