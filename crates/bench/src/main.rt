@@ -2,6 +2,8 @@
 // The numbers go to standard error: they differ from run to run. What the lanes hold does not change the cost, so all hold one word.
 #![tactic(auto)]
 
+ghost use Rattle.std.specs.Prelude.{◌≤◌, length};
+
 use circuit::circuit::Circuit;
 use sheet::read::load_pair;
 use std::io;
@@ -39,31 +41,45 @@ fn put<K: Copy + From<bool>>(number: u64, places: &mut [K]) {
     }
 }
 
-// The vectors are made before the first evaluation: an array of a type parameter is not to be had.
 /// Evaluates the circuit; in how many lanes the first gate's net was 1, by `ones`, so that no evaluation can be left out.
+// The callers make the arrays: a slice of an array of a type parameter would owe that the type is small.
 fn evaluations<K: Measured, F: Fn(K) -> u64>(
-    rt: &HostRuntime,
     circuit: &Circuit,
+    rows: &[K],
+    inputs: &mut [K],
+    nets: &mut [K],
     ones: F,
-) -> io::Result<u64>
-    requires { F.IsAlwaysCallable ones }
+) -> u64
+    requires called { F.IsAlwaysCallable ones }
+    requires room { (64 ≤ length rows.now) × (16 ≤ length inputs.old) × (216 ≤ length nets.old) }
 {
+    let m = circuit.rows();
     let n = usize::from(circuit.inputs);
-    let rows = vec![in rt.alloc(); K::from(true); circuit.rows()]?;
-    let mut inputs = vec![in rt.alloc(); K::from(false); n]?;
-    let mut nets = vec![in rt.alloc(); K::from(false); n + circuit.gates.len()]?;
     let mut total = 0u64;
     for word in 0..K::EVALUATIONS {
-        put(word, inputs.as_mut_slice());
-        let _ = evaluate(
-            circuit,
-            rows.as_slice(),
-            inputs.as_slice(),
-            nets.as_mut_slice(),
-        );
+        put(word, inputs);
+        let _ = evaluate(circuit, &rows[..m], &inputs[..n], nets);
         total = total.wrapping_add(ones(nets[n]));
     }
-    Ok(total)
+    total
+}
+
+/// One input word at a time.
+fn by_bits(circuit: &Circuit) -> u64 {
+    let rows = [Bit::truth(); 64];
+    let mut inputs = [Bit::falsity(); 16];
+    let mut nets = [Bit::falsity(); 216];
+    let ones = |bit: Bit| u64::from(bit.value);
+    evaluations(circuit, &rows, &mut inputs, &mut nets, ones)
+}
+
+/// In 64 lanes at a time.
+fn by_words(circuit: &Circuit) -> u64 {
+    let rows = [Word::truth(); 64];
+    let mut inputs = [Word::falsity(); 16];
+    let mut nets = [Word::falsity(); 216];
+    let ones = |word: Word| u64::from(word.bits.count_ones());
+    evaluations(circuit, &rows, &mut inputs, &mut nets, ones)
 }
 
 /// Gate evaluations a second.
@@ -74,24 +90,24 @@ fn rate(gates: usize, nanos: u128) -> u128 {
         / nanos.max(1)
 }
 
-/// In how many lanes the first gate's net was 1, and the gate evaluations a second.
-fn timed<K: Measured, F: Fn(K) -> u64>(
+/// In how many lanes the first gate's net was 1, as `work` answers, and the gate evaluations a second.
+fn timed<F: FnOnce(&Circuit) -> u64>(
     rt: &HostRuntime,
     circuit: &Circuit,
-    ones: F,
+    work: F,
 ) -> io::Result<(u64, u128)>
-    requires { F.IsAlwaysCallable ones }
+    requires { F.IsAlwaysCallable work }
 {
     let start = Instant::now(rt)?;
-    let total = evaluations(rt, circuit, ones)?;
+    let total = work(circuit);
     let nanos = start.elapsed(rt)?.as_nanos();
     Ok((total, rate(circuit.gates.len(), nanos)))
 }
 
 fn measure(rt: &HostRuntime, circuit: &Circuit) -> io::Result<()> {
     let gates = circuit.gates.len();
-    let (a, slow) = timed(rt, circuit, |bit: Bit| u64::from(bit.value))?;
-    let (b, fast) = timed(rt, circuit, |word: Word| u64::from(word.bits.count_ones()))?;
+    let (a, slow) = timed(rt, circuit, by_bits)?;
+    let (b, fast) = timed(rt, circuit, by_words)?;
     let times = fast / slow.max(1);
     eprintln!(rt; "{gates} gates, {WORDS} evaluations ({a}, {b})")?;
     eprintln!(rt; "one at a time: {slow} gate evaluations a second")?;
