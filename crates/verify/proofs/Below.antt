@@ -1,11 +1,11 @@
 -- The words that differ, counted one after another, are as many as there are in the list of those that do.
-use Rattle.std.proofs.Common.{◌≡◌, ℕ, zero, suc, ◌+◌, Bool, true, false, cond, not, [], ◌∷◌, ◌++◌, length, refl, ap, ◌∙◌, arith}
+use Rattle.std.proofs.Common.{◌≡◌, ℕ, zero, suc, ◌+◌, ◌-◌, ◌^◌, Bool, true, false, cond, not, [], ◌∷◌, ◌++◌, length, refl, ap, ◌∙◌, arith}
 use Rattle.std.specs.Prelude.{filter}
 use Rattle.std.specs.List.{range_with_len, sum_by}
 use Rattle.std.proofs.lemmas.List.Sums.{length-filter, sum_by_push}
 use Rattle.circuit.specs.Gates.{Sheet}
 use Rattle.meaning.specs.Meaning.{outputs_at}
-use Rattle.matching.specs.Differing.{same, differs}
+use Rattle.matching.specs.Differing.{same, differs, differing_from}
 use Rattle.verify.specs.Count.{differing_below}
 
 turned : (b : Bool) (m n : ℕ) → m ≡ n → n + cond (not b) 1 0 ≡ m + cond b 0 1
@@ -28,3 +28,9 @@ module _ (t s : Sheet) (setting : ℕ) where
       let last = turned (same (outputs_at t setting k) (outputs_at s 0 k)) (differing_below t s setting k) (sum_by count words) before in
       let more = length-filter differ (range_with_len 0 (suc k)) ∙ ap (sum_by count) (range_more 0 k k (omega arith)) ∙ sum_by_push count words k in
       omega (arith, last, more)
+
+  -- and so of all input words
+  pub differing_below_all : differing_below t s setting (2 ^ t.inputs) ≡ length (differing_from t s setting 0)
+  differing_below_all =
+      let all : 2 ^ t.inputs ≡ 2 ^ t.inputs - 0 = omega arith in
+      differing_below_is (2 ^ t.inputs) ∙ ap (λ k. length (filter (differs t s setting) (range_with_len 0 k))) all
