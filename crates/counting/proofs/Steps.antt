@@ -1,5 +1,5 @@
 -- What a step comes to: the row holds, or one row more has failed.
-use Rattle.std.proofs.Common.{◌≡◌, ℕ, ◌-◌, ◌^◌, ◌<◌, Bool, true, false, List, [], ◌∷◌, ◌++◌, map, if◌then◌else◌, append_assoc, length, take, drop, replicate, sym, refl, ap, ◌∙◌, subst, arith, take_at}
+use Rattle.std.proofs.Common.{◌≡◌, ℕ, ◌-◌, ◌^◌, ◌<◌, Bool, true, false, List, [], ◌∷◌, ◌++◌, map, if◌then◌else◌, append_assoc, length, take, drop, replicate, sym, refl, ap, ◌∙◌, subst, arith, take_at, take_all}
 use borrow.Author.Tests.{both_ways}
 use Rattle.std.proofs.lemmas.List.{map-id}
 use Rattle.clause.specs.Logic.{Row, Clause, all_hold}
@@ -23,6 +23,12 @@ idle_tried row cs r x = let z : ◌≡◌ {A = ℕ} 0 1 = cc x.0 in absurd (omeg
 -- the first row: none is before it
 pub none_before : (row : Row) (n : ℕ) (cs : List Clause) → row ≡ replicate n false → Tried Searching row cs
 none_before row n cs e r x = let zero_row = ap number e ∙ number_first n in absurd (omega (arith, x.1.less))
+
+-- a row made anew in a vector that was emptied, where there was room
+pub made : (room : Bool) (old new : Row) (len n : ℕ) → room ≡ true → old ≡ [] → len ≡ 0 → new ≡ (if room then take n old ++ replicate (n - len) false else old) → new ≡ replicate n false
+made room old new len n r o l e =
+    e ∙ ap (λ b. if b then take n old ++ replicate (n - len) false else old) r ∙ ap (λ xs. take n xs ++ replicate (n - len) false) o
+    ∙ ap (λ xs. xs ++ replicate (n - len) false) (take_all n [] (omega arith)) ∙ ap (λ k. replicate k false) (omega arith)
 
 -- a clause put last: its head was pushed, and its literals appended, where there was room
 pub put_last : (room : Bool) (ws pushed new : List Literal) (c : Clause) (h : Literal) → room ≡ true → h ≡ head (length c) → pushed ≡ ws ++ (h ∷ []) → new ≡ (if room then pushed ++ c else pushed)

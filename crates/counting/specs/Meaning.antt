@@ -1,5 +1,5 @@
 -- What the counting engine means: its view.
-use Rattle.std.specs.Prelude.{◌≡◌, ◌-◌, ◌^◌, ◌≤◌, length, vec_items, vec_len}
+use Rattle.std.specs.Prelude.{◌≡◌, ◌-◌, ◌^◌, ◌≤◌, length, vec_items}
 use Rattle.clause.specs.Logic.{Row}
 use Rattle.clause.specs.Memory.{clauses_of}
 use Rattle.engine.specs.View.{View, State, allowance, owed}
@@ -20,7 +20,7 @@ row_of c = vec_items c.row
 -- what it means in a phase
 abbrev pub view_in : Phase → Counting → View
 view_in phase c = record {
-  variables = vec_len c.row;
+  variables = c.variables;
   clauses = clauses_of (vec_items c.words);
   count = c.control.count;
   places = c.control.places;
@@ -33,7 +33,7 @@ view_of c = view_in c.control.phase c
 -- a search has begun: what was asked stays, and the steps owed are no more than idle owes
 pub record Begun (e : View) (c : Counting) : Type 0 where
   pub phase : c.control.phase ≡ Searching
-  pub variables : vec_len c.row ≡ e.variables
+  pub variables : c.variables ≡ e.variables
   pub clauses : (view_of c).clauses ≡ e.clauses
   pub places : c.control.places ≡ e.places
   pub count : c.control.count ≡ e.count

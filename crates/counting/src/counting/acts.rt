@@ -21,19 +21,19 @@ use refusal::refusal::Refusal;
 use std::alloc::Global;
 
 impl Counting {
-    /// An engine over this memory: as many places as the vectors are long, and nothing in them.
-    pub fn new(mut row: Vec<bool>, mut words: Vec<Literal>) -> Counting
+    /// An engine over this memory: as many places as the vectors are long, no variables and no clauses.
+    pub fn new(row: Vec<bool>, mut words: Vec<Literal>) -> Counting
         ensures { view_of result ≡ new_with (record { variables = vec_len row; words = vec_len words }) }
     {
         let places = Places {
             variables: row.len(),
             words: words.len(),
         };
-        row.clear();
         words.clear();
         Counting {
             row,
             words,
+            variables: 0,
             control: Control::new(places),
         }
     }
@@ -45,6 +45,7 @@ impl Counting {
         Ok(Counting {
             row: Vec::with_capacity(heap, variables)?,
             words: Vec::with_capacity(heap, words)?,
+            variables: 0,
             control: Control::new(Places { variables, words }),
         })
     }
@@ -56,22 +57,21 @@ impl Engine for Counting {
     fn clear(&mut self) {
         self.control.phase = Phase::Idle;
         self.words.clear();
-        self.row.clear();
+        self.variables = 0;
     }
 
     fn grow(&mut self, variables: usize) -> Result<(), Refusal> {
-        self.control.may_grow(self.row.len(), variables)?;
+        self.control.may_grow(self.variables, variables)?;
         self.control.phase = Phase::Idle;
-        // The capacity holds the places, so neither this nor `add` asks for memory.
-        let all = self.row.len() + variables;
-        self.row.resize(all, false).unwrap();
+        self.variables += variables;
         Ok(())
     }
 
     fn add(&mut self, clause: &[Literal]) -> Result<(), Refusal> {
         self.control
-            .may_add(self.row.len(), self.words.len(), clause)?;
+            .may_add(self.variables, self.words.len(), clause)?;
         self.control.phase = Phase::Idle;
+        // The capacity holds the places, so neither this nor `begin` asks for memory.
         self.words.push_reserved(head(clause.len()));
         self.words.extend_from_slice(clause).unwrap();
         Ok(())
@@ -95,7 +95,7 @@ impl Engine for Counting {
     }
 
     fn value(&self, variable: usize) -> Result<bool, Refusal> {
-        self.control.may_tell(self.row.len(), variable)?;
+        self.control.may_tell(self.variables, variable)?;
         Ok(self.row.value(variable))
     }
 
@@ -113,7 +113,8 @@ impl Counting {
     fn begin(&mut self)
         ensures { Begun (view_of self.old) self.new }
     {
-        self.row.fill(false);
+        self.row.clear();
+        self.row.resize(self.variables, false).unwrap();
         self.control.phase = Phase::Searching;
     }
 

@@ -1,4 +1,4 @@
-use Rattle.std.proofs.Common.{◌∙◌, false, vec_items, sym, ap, refl, arith}
+use Rattle.std.proofs.Common.{◌≡◌, ◌∙◌, false, vec_items, sym, ap, refl, arith}
 use Rattle.counting.specs.Meaning.{row_of, view_of}
 use Rattle.counting.specs.Rows.{some_false}
 use Rattle.counting.proofs.Steps.{as_held, counted, tried_on, seeks_more, seeks_none}
@@ -15,6 +15,7 @@ invariant_of-self-2 c =
       coded = s.coded;
       sized = s.sized;
       inside = s.inside;
+      whole = s.whole;
       tried = tried_on s.control.phase (row_of s) _ (view_of s).clauses after s.tried fails;
     }
 
@@ -30,7 +31,7 @@ returns-then-count_up c =
         clauses = refl;
         places = refl;
         count = refl;
-        seeks = seeks_more s.control.phase (row_of s) _ s.row.len (view_of s).clauses c.requires after more;
+        seeks = seeks_more s.control.phase (row_of s) _ s.variables (view_of s).clauses c.requires after more;
       };
     }
 
@@ -38,6 +39,7 @@ pub returns : goal.returns
 returns c =
     let s = c.args.self.now in
     let fails = as_held (row_of s) (vec_items s.words) _ false c.deref.ensures.value c.if-all_hold.ensures in
+    let long : s.row.len ≡ s.variables = s.whole (λ e. cc) in
     let none = c.if-count_up.ensures.answer ∙ ap some_false c.deref_mut.ensures.value in
     record {
       phase = c.requires;
@@ -46,6 +48,6 @@ returns c =
         clauses = refl;
         places = refl;
         count = refl;
-        seeks = seeks_none s.control.phase (row_of s) s.row.len (view_of s).clauses 0 c.requires (sym s.row.ok.0) none s.tried fails;
+        seeks = seeks_none s.control.phase (row_of s) s.variables (view_of s).clauses 0 c.requires (sym s.row.ok.0 ∙ long) none s.tried fails;
       };
     }
