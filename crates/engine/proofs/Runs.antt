@@ -93,8 +93,8 @@ right_owes v w cs Model s n r = ap (owed_in w) r.1
 right_owes v w cs Unsatisfiable s n r = ap (owed_in w) r.0
 
 -- a search that spent its budget
-pub spent : (k : ℕ) (e e' : View) → Mores k e e' → Searched e k More k e'
-spent k e e' m =
+pub spent : (k budget : ℕ) (e e' : View) → k ≡ budget → Mores k e e' → Searched e budget More k e'
+spent k budget e e' b m =
     let w = went k e e' m in
     record {
       variables = w.variables;
@@ -102,7 +102,7 @@ spent k e e' m =
       places = w.places;
       count = w.count;
       within = omega arith;
-      whole = λ _. refl;
+      whole = λ _. b;
       steps = m;
       right = w.unanswered;
       debt = λ h _. w.debt h;
