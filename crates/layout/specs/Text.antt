@@ -5,7 +5,6 @@ use Rattle.std.specs.Str.{bytes_eq}
 use Rattle.refusal.specs.declared.refusal.Refusal.{Refusal}
 use Rattle.refusal.specs.declared.refusal.Refusal.TheVariants.{FieldForm}
 use Rattle.refusal.specs.declared.fault.Fault.{Fault}
-use Rattle.refusal.specs.Faults.{role_number}
 use Rattle.refusal.specs.Numbers.{number_of}
 
 -- A column of that weight before the last: a space in a blank field and before a number's first digit, else a digit.
@@ -44,4 +43,4 @@ field_value x = cond (blank x) (Ok None) (cond (numeral x) (Ok (Some (decoded x)
 
 -- the row of a fault: 'F', then its number, sheet, row and column
 abbrev pub fault_text : Fault → List ℕ
-fault_text f = row_text 70 (number_of f.refusal ∷ role_number f.sheet ∷ f.row ∷ f.column ∷ [])
+fault_text f = row_text 70 (number_of f.refusal ∷ f.sheet ∷ f.row ∷ f.column ∷ [])

@@ -31,7 +31,7 @@ pub fn fault_row(fault: &Fault) -> Row
         b'F',
         &[
             fault.number(),
-            fault.sheet.number(),
+            u32::from(fault.sheet),
             u32::from(fault.row),
             u32::from(fault.column),
         ],

@@ -8,14 +8,14 @@ use crate::role::Role;
 use std::error::Error;
 use std::fmt;
 
-/// A refusal, and where: the sheet, its row from 1 and its column from 1.
-/// A row or a column that is not known yet, or that does not apply, is 0.
+/// A refusal, and where: the sheet (1 target, 2 specification), its row from 1 and its column from 1.
+/// A number that is not known yet, or that does not apply, is 0.
 // No `Option<u16>` and `Option<u8>`: `Some(0)` would be a second way to say none, and a fault's row of 32 bytes, which writes
 // this very 0, would take `fault.row.map_or(0, u32::from)` for `u32::from(fault.row)`.
 #[derive(Clone, Copy, Debug, PartialEq, Eq)]
 pub struct Fault {
     pub refusal: Refusal,
-    pub sheet: Role,
+    pub sheet: u8,
     pub row: u16,
     pub column: u8,
 }
@@ -27,7 +27,7 @@ impl Fault {
     {
         Fault {
             refusal,
-            sheet: Role::Alone,
+            sheet: 0,
             row: 0,
             column,
         }
@@ -40,8 +40,8 @@ impl Fault {
         Fault { row, ..self }
     }
 
-    /// The same fault, in that sheet.
-    pub fn in_sheet(self, sheet: Role) -> Fault
+    /// The same fault, in the sheet of that number.
+    pub fn in_sheet(self, sheet: u8) -> Fault
         ensures { result ≡ moved_to_sheet sheet self }
     {
         Fault { sheet, ..self }
@@ -69,13 +69,14 @@ impl fmt::Display for Fault {
     ghost output = { λ f. Some (fault_words f) };
 
     fn fmt<W: fmt::Write>(&self, f: &mut fmt::Formatter<W>) -> fmt::Result {
+        let sheet = Role::from(self.sheet);
         if self.row != 0 {
-            let (sheet, row, column) = (self.sheet, self.row, self.column);
+            let (row, column) = (self.row, self.column);
             return write!(f, "{sheet}, row {row}, column {column}: {}", self.refusal);
         }
         match self.sheet {
-            Role::Alone => write!(f, "{}", self.refusal),
-            Role::Target | Role::Specification => write!(f, "{}: {}", self.sheet, self.refusal),
+            0 => write!(f, "{}", self.refusal),
+            _ => write!(f, "{sheet}: {}", self.refusal),
         }
     }
 }

@@ -1,6 +1,6 @@
-// What a sheet is read as, and which sheet a fault is in.
+// What a sheet is read as, and its number.
 ghost use Rattle.std.specs.Prelude.{◌≡◌, Some};
-ghost use Rattle.refusal.specs.Faults.{role_number, role_words};
+ghost use Rattle.refusal.specs.Faults.{role_number, role_words, role_of};
 
 use std::fmt;
 
@@ -19,6 +19,28 @@ impl Role {
         ensures { result ≡ role_number self.now }
     {
         *self as u32
+    }
+}
+
+/// The number of a sheet in its pair; 0 for a sheet on its own.
+impl From<Role> for u8 {
+    ghost from_gives = { λ role number. number ≡ role_number role };
+
+    fn from(role: Role) -> u8 {
+        role as u8
+    }
+}
+
+/// What the sheet of that number is read as: a number that is none of a pair's is a sheet on its own.
+impl From<u8> for Role {
+    ghost from_gives = { λ number role. role ≡ role_of number };
+
+    fn from(number: u8) -> Role {
+        match number {
+            1 => Role::Target,
+            2 => Role::Specification,
+            _ => Role::Alone,
+        }
     }
 }
 

@@ -191,7 +191,7 @@ reads_alone t (Err f) h = (h, λ s l e. none_or_some (sheet_fault Alone t) f (ap
 pub pair_refused : (t : List ℕ) (f : Fault) → pair_fault t ≡ Some f → (x y : Sheet) → Lawful x → Lawful y → Plain y → t ≡ pair_rows x y → ⊥
 pair_refused t f h x y lx ly p e = none_or_some (pair_fault t) f (ap pair_fault e ∙ pair_laws.written_well x y lx ly p) h
 
-pub in_target : (t : List ℕ) (f : Fault) → sheet_fault Target t ≡ Some f → pair_fault t ≡ Some (moved_to_sheet Target f)
+pub in_target : (t : List ℕ) (f : Fault) → sheet_fault Target t ≡ Some f → pair_fault t ≡ Some (moved_to_sheet 1 f)
 in_target t f e = rw e
 
 -- how long a circuit's rows are, by the lengths of its vectors
@@ -213,7 +213,7 @@ module _ (t : List ℕ) (c : Circuit) (e : sheet_fault Target t ≡ None) (is_c 
       (is_n ∙ length_rows (drawn c) ∙ ap (λ g. size g (length (vec_items c.outputs))) (ap (λ s. length s.gates) is_c ∙ gates_length t (gates_in t))
       ∙ ap (size (gates_in t)) (ap (λ s. length s.outputs) is_c ∙ outputs_length t (gates_in t) (outputs_in t)))
 
-  pub in_specification : (f : Fault) → sheet_fault Specification (after_target t) ≡ Some f → pair_fault t ≡ Some (moved_to_sheet Specification f)
+  pub in_specification : (f : Fault) → sheet_fault Specification (after_target t) ≡ Some f → pair_fault t ≡ Some (moved_to_sheet 2 f)
   in_specification f h = rw (e, h)
 
   -- both are read

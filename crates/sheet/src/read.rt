@@ -118,12 +118,12 @@ pub fn read_pair(room: PairRoom, bytes: &[u8]) -> Result<Pair, Fault>
         target,
         specification,
     } = room;
-    let target = read_part(bytes, Role::Target, target).map_err(|fault| fault.in_sheet(
+    let target = read_part(bytes, Role::Target, target).map_err(|fault| fault.in_sheet(u8::from(
         Role::Target,
-    ))?;
+    )))?;
     let start = sheet_length(&target);
     let specification = read_part(&bytes[start..], Role::Specification, specification).map_err(
-        |fault| fault.in_sheet(Role::Specification),
+        |fault| fault.in_sheet(u8::from(Role::Specification)),
     )?;
     Ok(Pair {
         target,

@@ -69,13 +69,13 @@ both_say t a b = record {
 -- the same of a pair
 pub one_pair : (t : List ℕ) → pair_fault t ≡ None → PairOf (sheet_in t) (sheet_in (after_target t)) t
 one_pair t e =
-    let p = both_passed (at_sheet Target (sheet_fault Target t)) (at_sheet Specification (sheet_fault Specification (after_target t))) e in
-    both_say t (sound Target t (moved_passed (moved_to_sheet Target) (sheet_fault Target t) p.0))
-    (sound Specification (after_target t) (moved_passed (moved_to_sheet Specification) (sheet_fault Specification (after_target t)) p.1))
+    let p = both_passed (at_sheet 1 (sheet_fault Target t)) (at_sheet 2 (sheet_fault Specification (after_target t))) e in
+    both_say t (sound Target t (moved_passed (moved_to_sheet 1) (sheet_fault Target t) p.0))
+    (sound Specification (after_target t) (moved_passed (moved_to_sheet 2) (sheet_fault Specification (after_target t)) p.1))
 
 pub pair_laws : PairLaws
 pair_laws = record {
   read_back = λ t e. (sheet_in t, sheet_in (after_target t), one_pair t e);
   written_well = λ x y lx ly p.
-      or_none (ap (at_sheet Target) (target_reads x y lx ly).faultless) (ap (at_sheet Specification) (specification_reads x y lx ly p).faultless);
+      or_none (ap (at_sheet 1) (target_reads x y lx ly).faultless) (ap (at_sheet 2) (specification_reads x y lx ly p).faultless);
 }

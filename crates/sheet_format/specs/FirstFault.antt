@@ -38,7 +38,7 @@ first_below (suc n) look = or_else (first_below n look) (look n)
 abbrev pub at_row : ℕ → Option Fault → Option Fault
 at_row k f = option_map (moved_to_row k) f
 
-abbrev pub at_sheet : Role → Option Fault → Option Fault
+abbrev pub at_sheet : ℕ → Option Fault → Option Fault
 at_sheet k f = option_map (moved_to_sheet k) f
 
 -- Field j holds x, and k of the fields before it are filled. It may be blank where it is not needed, and be filled, with a
@@ -122,4 +122,4 @@ after_target t = drop (size (gates_in t) (outputs_in t)) t
 
 -- the target first, then the specification from right after it
 abbrev pub pair_fault : List ℕ → Option Fault
-pair_fault t = or_else (at_sheet Target (sheet_fault Target t)) (at_sheet Specification (sheet_fault Specification (after_target t)))
+pair_fault t = or_else (at_sheet 1 (sheet_fault Target t)) (at_sheet 2 (sheet_fault Specification (after_target t)))

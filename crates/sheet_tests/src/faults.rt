@@ -10,14 +10,9 @@ pub const INVERTER: &[u8; 192] =
     b"H    1    1    1               \nL    2    1                    \nQ    2                         \nH    1    1    1               \nI    2    1                    \nQ    2                         \n";
 
 /// The number, sheet, row and column of a fault, where there is one.
-fn place(answer: Result<Pair, Fault>) -> Option<(u32, u32, u16, u8)> {
+fn place(answer: Result<Pair, Fault>) -> Option<(u32, u8, u16, u8)> {
     let fault = answer.err()?;
-    Some((
-        fault.number(),
-        fault.sheet.number(),
-        fault.row,
-        fault.column,
-    ))
+    Some((fault.number(), fault.sheet, fault.row, fault.column))
 }
 
 #[test]

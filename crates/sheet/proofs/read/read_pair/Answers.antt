@@ -3,7 +3,7 @@ use Rattle.std.proofs.Common.{◌≡◌, ◌≤◌, length, Ok, Some, sym, refl,
 use Rattle.std.specs.Result.{is_ok}
 use Rattle.std.proofs.lemmas.Result.{err_from_is_err_and, MatchResult-at_ok, MatchResult-at_err}
 use Rattle.refusal.specs.Faults.{moved_to_sheet}
-use Rattle.refusal.specs.declared.role.Role.TheVariants.{Target, Specification}
+use Rattle.refusal.specs.declared.role.Role.TheVariants.{Specification}
 use Rattle.sheet_format.specs.Decoding.{sheet_in}
 use Rattle.sheet_format.specs.FirstFault.{sheet_fault}
 use Rattle.sheet.proofs.Mapped.{was_err}
@@ -17,7 +17,7 @@ returns-in_err-target c =
     let q = was_err c.read_part.result (sym c.map_err.ensures.variant ∙ ap is_ok c.in_err-target.was) in
     let f = q.0 in
     let is = q.1 in
-    let made : c.in_err-target.field-0.0 ≡ moved_to_sheet Target f = search (rules, of_calls) in
+    let made : c.in_err-target.field-0.0 ≡ moved_to_sheet 1 f = search (rules, of_calls) in
     let e = in_target t f (MatchResult-at_err _ _ f is c.read_part.ensures) ∙ ap Some (sym made) in
     rw (p.1, p.2) (e, pair_refused t _ e)
 
@@ -45,7 +45,7 @@ returns-in_err-specification c =
     let q = was_err c.read_part-2.result (sym c.map_err-2.ensures.variant ∙ ap is_ok c.in_err-specification.was) in
     let f = q.0 in
     let is_f = q.1 in
-    let made : c.in_err-specification.field-0.0 ≡ moved_to_sheet Specification f = search (rules, of_calls) in
+    let made : c.in_err-specification.field-0.0 ≡ moved_to_sheet 2 f = search (rules, of_calls) in
     let e = in_specification t c.in_ok-target.target a.0 a.1 f (ap (sheet_fault Specification) (sym w) ∙ MatchResult-at_err _ _ f is_f c.read_part-2.ensures)
     ∙ ap Some (sym made) in
     rw (p.1, p.2) (e, pair_refused t _ e)
