@@ -63,8 +63,31 @@ outputs_are k [] = refl
 outputs_are k (q ∷ qs) = ap (λ z. output_text q ++ z) (outputs_are (k + 1) qs)
 
 -- the parts of a circuit's rows fit where its rows do
-pub parts_fit : (s : Sheet) (n : ℕ) (gs : List Gate) (qs : List ℕ) → length (rows s) ≤ n → gs ≡ s.gates → qs ≡ s.outputs → 32 + 32 * length gs + 32 * length qs ≤ n
-parts_fit s n gs qs h e f = omega (arith, length_rows s, ap length e, ap length f)
+pub parts_fit : (s : Sheet) (at n : ℕ) (gs : List Gate) (qs : List ℕ) → at + length (rows s) ≤ n → gs ≡ s.gates → qs ≡ s.outputs → at + 32 + 32 * length gs + 32 * length qs ≤ n
+parts_fit s at n gs qs h e f = omega (arith, length_rows s, ap length e, ap length f)
+
+pub front_fit : (s : Sheet) (n : ℕ) (gs : List Gate) (qs : List ℕ) → length (rows s) ≤ n → gs ≡ s.gates → qs ≡ s.outputs → 32 + 32 * length gs + 32 * length qs ≤ n
+front_fit s n gs qs h e f = omega (arith, parts_fit s 0 n gs qs (omega (arith, h)) e f)
+
+-- the header, the gates and the outputs, laid one after another
+pub sheet_laid : (b header c d e : List ℕ) (at : ℕ) (s : Sheet) (gs : List Gate) (qs : List ℕ) → at + length (rows s) ≤ length b → gs ≡ s.gates → qs ≡ s.outputs →
+    header ≡ row_text 72 (s.inputs ∷ length gs ∷ length qs ∷ []) → c ≡ laid b at header → d ≡ laid c (at + 32) (gate_texts (s.inputs + 1) gs) →
+    e ≡ laid d (at + 32 + 32 * length gs) (output_texts qs) → e ≡ laid b at (rows s)
+unfolding rows
+sheet_laid b header c d e at s gs qs h is_gs is_qs is_header is_c is_d is_e =
+    let fit = parts_fit s at (length b) gs qs h is_gs is_qs in
+    let g = gate_texts (s.inputs + 1) gs in
+    let q = output_texts qs in
+    let long : length header ≡ 32 = ap length is_header in
+    let more : length g ≡ 32 * length gs = length_gate_texts (s.inputs + 1) gs in
+    let one : d ≡ laid b at (header ++ g) = is_d ∙ ap (λ z. laid z (at + 32) g) is_c ∙ laid_more b at (at + 32) header g (omega arith) (omega arith) in
+    let two : e ≡ laid b at ((header ++ g) ++ q) =
+    is_e ∙ ap (λ z. laid z (at + 32 + 32 * length gs) q) one
+    ∙ laid_more b at (at + 32 + 32 * length gs) (header ++ g) q (omega (arith, length-append header g)) (omega (arith, length-append header g)) in
+    two ∙ ap (laid b at) (append_assoc header g q)
+    ∙ ap (λ z. laid b at (z ++ (g ++ q))) (is_header ∙ ap (λ z. row_text 72 (s.inputs ∷ length z ∷ length qs ∷ [])) is_gs ∙ ap (λ z. row_text 72 (s.inputs ∷ length s.gates ∷ length z ∷ [])) is_qs)
+    ∙ ap (λ z. laid b at (header_text s ++ (gate_texts (s.inputs + 1) z ++ q))) is_gs
+    ∙ ap (λ z. laid b at (header_text s ++ (gate_texts (s.inputs + 1) s.gates ++ output_texts z))) is_qs
 
 pub part_long : (b ys : List ℕ) (n k : ℕ) → n ≤ length b → k ≡ length b - n → length ys ≡ length (take k (drop n b)) → length (put_mid n k b ys) ≡ length b
 part_long b ys n k h p e =
@@ -81,32 +104,23 @@ laid_within b ys y n k e p h =
     ap (λ z. take n b ++ (z ++ drop k (drop n b))) (e ∙ ap (λ z. laid z 0 y) part) ∙ ap (λ z. take n b ++ ((y ++ drop (0 + length y) (drop n b)) ++ z)) left
     ∙ ap (λ z. take n b ++ z) (append-nil (y ++ drop (0 + length y) (drop n b))) ∙ ap (λ z. take n b ++ (y ++ z)) (drop-drop (0 + length y) n b ∙ ap (λ i. drop i b) far)
 
--- the header, the gates and the outputs, laid one after another, each over what begins after those before it
-pub sheet_laid : (b header c d e : List ℕ) (s : Sheet) (gs : List Gate) (qs : List ℕ) (k m : ℕ) → length (rows s) ≤ length b → gs ≡ s.gates → qs ≡ s.outputs
+-- the same at a buffer's front, the gates and the outputs each laid over what begins after those before them
+pub parts_laid : (b header c d e : List ℕ) (s : Sheet) (gs : List Gate) (qs : List ℕ) (k m : ℕ) → length (rows s) ≤ length b → gs ≡ s.gates → qs ≡ s.outputs
     → header ≡ row_text 72 (s.inputs ∷ length gs ∷ length qs ∷ []) → c ≡ laid b 0 header → length c ≡ length b
     → k ≡ length c - 32 → d ≡ laid (take k (drop 32 c)) 0 (texts (λ i g. gate_text (s.inputs + 1 + i) g) 0 gs) → length (put_mid 32 k c d) ≡ length c
     → m ≡ length (put_mid 32 k c d) - (32 + 32 * length gs)
     → e ≡ laid (take m (drop (32 + 32 * length gs) (put_mid 32 k c d))) 0 (texts (λ i q. output_text q) 0 qs)
     → put_mid (32 + 32 * length gs) m (put_mid 32 k c d) e ≡ laid b 0 (rows s)
-unfolding rows
-sheet_laid b header c d e s gs qs k m h is_gs is_qs is_header is_c long_c is_k is_d long_d is_m is_e =
-    let fit = parts_fit s (length b) gs qs h is_gs is_qs in
+parts_laid b header c d e s gs qs k m h is_gs is_qs is_header is_c long_c is_k is_d long_d is_m is_e =
+    let fit = front_fit s (length b) gs qs h is_gs is_qs in
     let own : s.inputs + 1 + 0 ≡ s.inputs + 1 = omega arith in
     let g = gate_texts (s.inputs + 1) gs in
     let q = output_texts qs in
     let n = 32 + 32 * length gs in
     let whole = put_mid 32 k c d in
-    let long : length header ≡ 32 = ap length is_header in
     let more : length g ≡ 32 * length gs = length_gate_texts (s.inputs + 1) gs in
     let rest : length q ≡ 32 * length qs = length_output_texts qs in
     let gates : d ≡ laid (take k (drop 32 c)) 0 g = is_d ∙ ap (laid (take k (drop 32 c)) 0) (gates_are (s.inputs + 1) 0 gs ∙ ap (λ i. gate_texts i gs) own) in
     let outputs : e ≡ laid (take m (drop n whole)) 0 q = is_e ∙ ap (laid (take m (drop n whole)) 0) (outputs_are 0 qs) in
-    let one : whole ≡ laid b 0 (header ++ g) =
-    laid_within c d g 32 k gates is_k (omega arith) ∙ ap (λ z. laid z 32 g) is_c ∙ laid_more b 0 32 header g (omega arith) (omega arith) in
-    let two : put_mid n m whole e ≡ laid b 0 ((header ++ g) ++ q) =
-    laid_within whole e q n m outputs is_m (omega arith) ∙ ap (λ z. laid z n q) one
-    ∙ laid_more b 0 n (header ++ g) q (omega (arith, length-append header g)) (omega (arith, length-append header g)) in
-    two ∙ ap (laid b 0) (append_assoc header g q)
-    ∙ ap (λ z. laid b 0 (z ++ (g ++ q))) (is_header ∙ ap (λ z. row_text 72 (s.inputs ∷ length z ∷ length qs ∷ [])) is_gs ∙ ap (λ z. row_text 72 (s.inputs ∷ length s.gates ∷ length z ∷ [])) is_qs)
-    ∙ ap (λ z. laid b 0 (header_text s ++ (gate_texts (s.inputs + 1) z ++ q))) is_gs
-    ∙ ap (λ z. laid b 0 (header_text s ++ (gate_texts (s.inputs + 1) s.gates ++ output_texts z))) is_qs
+    sheet_laid b header c whole (put_mid n m whole e) 0 s gs qs (omega (arith, h)) is_gs is_qs is_header is_c (laid_within c d g 32 k gates is_k (omega arith))
+    (laid_within whole e q n m outputs is_m (omega arith))

@@ -11,7 +11,7 @@ use Rattle.circuit.specs.declared.gate.Gate.{Gate}
 use Rattle.circuit.specs.Gates.{own_rows, total_rows}
 use Rattle.circuit.proofs.Rows.{rows_push}
 use Rattle.layout.specs.declared.shape.Shape.{Shape}
-use Rattle.layout.specs.Text.{blank}
+use Rattle.layout.specs.Text.{blank, decoded}
 use Rattle.sheet_format.specs.Decoding.{field, fields_of, filled_below, gate_in}
 use Rattle.sheet_format.specs.FirstFault.{first_below, at_row, field_fault, fields_fault, gate_fault, output_fault}
 use Rattle.sheet.specs.Parts.{IsRows, field_option, options, gates_fault_in, net_in}
@@ -42,11 +42,11 @@ found look n i f h e g =
     let m : i + 1 + (n - (i + 1)) ≡ n = omega arith in
     subst (λ k. first_below k look ≡ Some f) m (stays look (i + 1) f (below_found look i f e g) (n - (i + 1)))
 
-option_filled : (x : List ℕ) (b : Bool) → blank x ≡ b → bool_byte (is_some (field_option x)) ≡ cond b 0 1
-option_filled x true e = rw e
-option_filled x false e = rw e
+option_filled : (b : Bool) (n : ℕ) → bool_byte (is_some (cond b None (Some n))) ≡ cond b 0 1
+option_filled true n = refl
+option_filled false n = refl
 
-one_at_most : (b : Bool) → cond b 0 1 ≤ 1
+pub one_at_most : (b : Bool) → bool_byte b ≤ 1
 one_at_most true = omega arith
 one_at_most false = omega arith
 
@@ -67,8 +67,8 @@ pub turn : (s : Shape) (text : List ℕ) (fields : List (Option ℕ)) (k j w : �
     → Midst s text (set fields j v) (k + w) (j + 1)
 turn s text fields k j w v m h e is_v is_w =
     let count : w ≡ cond (blank (field j text)) 0 1 =
-    is_w ∙ ap (λ o. bool_byte (is_some o)) is_v ∙ option_filled (field j text) (blank (field j text)) refl in
-    let one : w ≤ 1 = rw count (one_at_most (blank (field j text))) in
+    is_w ∙ ap (λ o. bool_byte (is_some o)) is_v ∙ option_filled (blank (field j text)) (decoded (field j text)) in
+    let one : w ≤ 1 = rw is_w (one_at_most (is_some v)) in
     record {
       filled_is = rw add-one (ap (λ i. i + w) m.filled_is ∙ ap (λ i. filled_below j text + i) count);
       faultless = below_passed (field_look s text) j m.faultless (ap (λ i. field_fault s j i (field j text)) (sym m.filled_is) ∙ e);
