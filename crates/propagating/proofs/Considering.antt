@@ -1,5 +1,7 @@
 -- A clause of a search that was looked at: what its status says, and where its literal goes.
-use Rattle.std.proofs.Common.{◌≡◌, ℕ, ◌+◌, ◌<◌, ◌≤◌, true, false, List, length, get_or, drop, vec_items, refl, sym, ap, ◌∙◌, subst, arith}
+use Rattle.std.proofs.Common.{◌≡◌, ℕ, ◌+◌, ◌<◌, ◌≤◌, true, false, List, [], ◌∷◌, ◌++◌, length, get_or, take, drop, vec_items, vec_capacity, refl, sym, ap, ◌∙◌, subst, append_assoc, arith}
+use Rattle.std.proofs.lemmas.List.{append-nil, take_more_set}
+use Rattle.std.proofs.lemmas.List.Elements.{All-nil, All-cons, All-append}
 use Rattle.clause.specs.Logic.{Row, Clause, some_outside, all_hold, all_inside, negation}
 use Rattle.clause.specs.Memory.{Begins, encode}
 use Rattle.clause.proofs.Inside.{Within, within}
@@ -13,10 +15,11 @@ use Rattle.trail.specs.declared.status.Status.TheVariants.{Unit, Falsified}
 use Rattle.trail.proofs.Looks.{there, begins_here}
 use Rattle.trail.proofs.Slots.{field_at}
 use Rattle.trail.proofs.Soundness.{fresh_at, pushed}
-use Rattle.trail.specs.Trail.{literal_at}
+use Rattle.trail.specs.Debt.{debt}
+use Rattle.trail.specs.Trail.{Trail, literal_at}
 use Rattle.trail.proofs.Verdicts.{MayPut, may_put, conflict}
 use Rattle.propagating.specs.declared.search.Search.{Search}
-use Rattle.propagating.specs.Parts.{clauses_in, values_in, MayPush, Refutes, Keeps, Goes}
+use Rattle.propagating.specs.Parts.{clauses_in, values_in, trail_in, owes, MayPush, Pushes, Refutes, Keeps, GoesOn, Goes}
 use Rattle.propagating.proofs.Lent.{Put, Further, further}
 
 abbrev BeginsIn : Search → ℕ → Type 0
@@ -108,10 +111,43 @@ trailed s k x l h e n =
     let number : l.variable ≡ (literal_at es k).variable = ap (λ y. y.variable) n ∙ ap (λ y. y.variable) same in
     record { low = omega (arith, w.low); high = omega (arith, w.high) }
 
--- Nothing done, and one part after another.
+-- A trail that goes on by no literal, by one, and by one part after another.
+abbrev IsForced : Entry → Type 0
+IsForced e = e.decided ≡ false
+
+on_none : (t u : Trail) → u ≡ t → GoesOn t u
+on_none t u e = record { more = []; trail = e ∙ sym (append-nil t); forced = All-nil IsForced }
+
+on_one : (t u : Trail) (e : Entry) → u ≡ t ++ (e ∷ []) → e.decided ≡ false → GoesOn t u
+on_one t u e p f = record { more = e ∷ []; trail = p; forced = All-cons IsForced e [] f (All-nil IsForced) }
+
+on_then : (t u w : Trail) → GoesOn t u → GoesOn u w → GoesOn t w
+on_then t u w p q =
+    record {
+      more = p.more ++ q.more;
+      trail = q.trail ∙ ap (λ x. x ++ q.more) p.trail ∙ append_assoc t p.more q.more;
+      forced = All-append IsForced p.more q.more p.forced q.forced;
+    }
+
+-- the trail with a literal put last
+pushed_trail : (s t : Search) (e : Entry) → Keeps s t → Pushes s e t → trail_in t ≡ trail_in s ++ (e ∷ [])
+pushed_trail s t e k p =
+    let lt : s.progress.trail < length (entries_of s.slots.items) = omega (arith, s.standing.entries_long, t.standing.short, p.trail, k.variables) in
+    ap (λ n. take n (entries_of t.slots.items)) p.trail ∙ ap (take (s.progress.trail + 1)) p.entries ∙ take_more_set (entries_of s.slots.items) s.progress.trail e lt
+
+-- The formula and the trail left as they were, a forced literal put on the trail, and one part after another.
+pub goes_same : (s t : Search) → t.words ≡ s.words → t.slots ≡ s.slots → t.progress.trail ≡ s.progress.trail → Goes s t
+goes_same s t w l n =
+    let same : trail_in t ≡ trail_in s = ap (λ ss. take t.progress.trail (entries_of ss.items)) l ∙ ap (λ k. take k (entries_of s.slots.items)) n in
+    let owed : owes t ≡ owes s = ap (λ ss. debt ss.len (trail_in t)) l ∙ ap (debt s.slots.len) same in
+    record { keeps = record { words = w; variables = ap (λ ss. ss.len) l; room = ap vec_capacity l }; debt = omega (arith, owed); onward = on_none _ _ same }
+
 pub goes_none : (s : Search) → Goes s s
-goes_none s = record { keeps = record { words = refl; variables = refl; room = refl }; debt = omega arith }
+goes_none s = goes_same s s refl refl refl
+
+pub goes_forced : (s t : Search) (e : Entry) → Keeps s t → owes t + 1 ≤ owes s → Pushes s e t → e.decided ≡ false → Goes s t
+goes_forced s t e k d p f = record { keeps = k; debt = omega (arith, d); onward = on_one _ _ e (pushed_trail s t e k p) f }
 
 pub goes_then : (s t u : Search) → Goes s t → Goes t u → Goes s u
 goes_then s t u p q =
-    record { keeps = record { words = q.keeps.words ∙ p.keeps.words; variables = q.keeps.variables ∙ p.keeps.variables; room = q.keeps.room ∙ p.keeps.room }; debt = omega (arith, p.debt, q.debt) }
+    record { keeps = record { words = q.keeps.words ∙ p.keeps.words; variables = q.keeps.variables ∙ p.keeps.variables; room = q.keeps.room ∙ p.keeps.room }; debt = omega (arith, p.debt, q.debt); onward = on_then _ _ _ p.onward q.onward }

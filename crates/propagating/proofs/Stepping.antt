@@ -1,5 +1,5 @@
 -- What a step of a search does to what the engine means.
-use Rattle.std.proofs.Common.{◌≡◌, ℕ, ◌+◌, take, sym, refl, ap, subst}
+use Rattle.std.proofs.Common.{◌≡◌, ℕ, ◌+◌, sym, refl, ap, subst}
 use Rattle.clause.specs.Logic.{Solves, Unsolvable}
 use Rattle.engine.specs.Calls.{Seeks, Moves, StepsTo}
 use Rattle.engine.specs.Phases.{state_in, phase_after}
@@ -9,14 +9,14 @@ use Rattle.engine.specs.declared.types.Answer.TheVariants.{More, Model, Unsatisf
 use Rattle.engine.specs.declared.types.Phase.{Phase}
 use Rattle.engine.specs.declared.types.Places.{Places}
 use Rattle.engine.specs.declared.types.Phase.TheVariants as phase
-use Rattle.trail.specs.Cells.{entries_of, formula}
-use Rattle.trail.specs.Debt.{debt}
+use Rattle.trail.specs.Cells.{formula}
+use Rattle.trail.specs.Debt.{nodes}
 use Rattle.trail.specs.Values.{row_of}
 use Rattle.trail.proofs.Debts.{debt_some}
 use Rattle.propagating.specs.declared.search.Search.{Search}
 use Rattle.propagating.specs.declared.propagating.Propagating.{Propagating}
 use Rattle.propagating.specs.Meaning.{view_of}
-use Rattle.propagating.specs.Parts.{clauses_in, values_in, trail_in, owes, Keeps, Turns}
+use Rattle.propagating.specs.Parts.{clauses_in, values_in, trail_in, owes, Keeps, TurnsFrom, Turns}
 
 -- what the engine is doing, by its search
 abbrev pub state : Phase → Search → State
@@ -25,11 +25,11 @@ state p s = state_in p (owes s) (row_of (values_in s))
 pub same_clauses : (s t : Search) → Keeps s t → clauses_in t ≡ clauses_in s
 same_clauses s t k = ap (λ w. formula w.items) k.words
 
-seeks : (s t : Search) (a : Answer) → Keeps s t → Turns s a t → Seeks s.slots.len (clauses_in s) (owes s) a (state (phase_after a) t)
-seeks s t More k u = (owes t, refl, debt_some t.slots.len (trail_in t), u)
-seeks s t Model k u =
+seeks : (s t : Search) (d : ℕ) (a : Answer) → Keeps s t → TurnsFrom d a t → Seeks s.slots.len (clauses_in s) d a (state (phase_after a) t)
+seeks s t d More k u = (owes t, refl, debt_some t.slots.len (trail_in t), u)
+seeks s t d Model k u =
     (row_of (values_in t), refl, subst (λ cs. Solves s.slots.len cs (row_of (values_in t))) (same_clauses s t k) (subst (λ v. Solves v (clauses_in t) (row_of (values_in t))) k.variables u))
-seeks s t Unsatisfiable k u = (refl, subst (λ cs. Unsolvable s.slots.len cs) (same_clauses s t k) (subst (λ v. Unsolvable v (clauses_in t)) k.variables u))
+seeks s t d Unsatisfiable k u = (refl, subst (λ cs. Unsolvable s.slots.len cs) (same_clauses s t k) (subst (λ v. Unsolvable v (clauses_in t)) k.variables u))
 
 -- What a step comes to, from a phase.
 pub record Comes (s : Search) (p : Phase) (a : Answer) (t : Search) : Type 0 where
@@ -49,13 +49,11 @@ pub again_none : (s : Search) (p : Phase) → p ≡ phase.Unsatisfiable → Come
 again_none s p e = in_phase s s p phase.Unsatisfiable Unsatisfiable e (stays s) (refl, refl)
 
 pub under_way : (s t : Search) (p : Phase) (a : Answer) → p ≡ phase.Searching → Keeps s t → Turns s a t → Comes s p a t
-under_way s t p a e k u = in_phase s t p phase.Searching a e k (seeks s t a k u)
+under_way s t p a e k u = in_phase s t p phase.Searching a e k (seeks s t (owes s) a k u)
 
--- idle, the trail is empty, so all is owed
-pub first : (s t : Search) (p : Phase) (a : Answer) → p ≡ phase.Idle → (p ≡ phase.Idle → s.progress.trail ≡ 0) → Keeps s t → Turns s a t → Comes s p a t
-first s t p a e z k u =
-    let all : owes s ≡ debt s.slots.len (take 0 (entries_of s.slots.items)) = ap (λ n. debt s.slots.len (take n (entries_of s.slots.items))) (z e) in
-    in_phase s t p phase.Idle a e k (subst (λ d. Seeks s.slots.len (clauses_in s) d a (state (phase_after a) t)) all (seeks s t a k u))
+-- idle, all is owed
+pub first : (s t : Search) (p : Phase) (a : Answer) → p ≡ phase.Idle → Keeps s t → TurnsFrom (nodes s.slots.len) a t → Comes s p a t
+first s t p a e k u = in_phase s t p phase.Idle a e k (seeks s t (nodes s.slots.len) a k u)
 
 pub comes_as : (s t t' : Search) (p : Phase) (a a' : Answer) → t' ≡ t → a' ≡ a → Comes s p a t → Comes s p a' t'
 comes_as s t t' p a a' e f c = subst (λ x. Comes s p a' x) (sym e) (subst (λ x. Comes s p x t) (sym f) c)

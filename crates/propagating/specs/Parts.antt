@@ -1,11 +1,11 @@
 -- What a search holds, and what its parts do to it.
-use Rattle.std.specs.Prelude.{◌≡◌, ℕ, ◌+◌, ◌≤◌, false, List, take, None, Result, OnErr, vec_len, vec_capacity}
+use Rattle.std.specs.Prelude.{◌≡◌, ℕ, ◌+◌, ◌≤◌, true, false, List, ◌++◌, take, None, Result, OnErr, All, slice_set, vec_len, vec_capacity}
 use Rattle.clause.specs.Logic.{Clause, outside, Solves, Unsolvable}
 use Rattle.engine.specs.declared.types.Answer.{Answer}
 use Rattle.engine.specs.declared.types.Answer.TheVariants.{More, Model, Unsatisfiable}
 use Rattle.trail.specs.Debt.{debt}
 use Rattle.trail.specs.Trail.{Trail, Forces, Refuted}
-use Rattle.trail.specs.Values.{Values, value_so_far, row_of}
+use Rattle.trail.specs.Values.{Values, value_so_far, assign, row_of}
 use Rattle.trail.specs.Cells.{values_of, entries_of, formula}
 use Rattle.trail.specs.declared.cells.Entry.{Entry}
 use Rattle.propagating.specs.declared.search.Search.{Search}
@@ -36,6 +36,16 @@ pub record MayPush (s : Search) (e : Entry) : Type 0 where
   pub opened : value_so_far (values_in s) e.literal.variable ≡ None
   pub forced : e.decided ≡ false → Forces (vec_len s.slots) (clauses_in s) (trail_in s) e.literal
 
+-- the literal was put last on its trail, and holds
+pub record Pushes (s : Search) (e : Entry) (s' : Search) : Type 0 where
+  pub trail : s'.progress.trail ≡ s.progress.trail + 1
+  pub values : values_in s' ≡ assign (values_in s) e.literal
+  pub entries : entries_of s'.slots.items ≡ slice_set (entries_of s.slots.items) s.progress.trail e
+
+-- the decision that makes a slot's variable false
+abbrev pub decision : ℕ → Entry
+decision slot = record { literal = record { variable = slot + 1; negated = true }; decided = true }
+
 -- variables, clauses and memory stay
 pub record Keeps (s s' : Search) : Type 0 where
   pub words : s'.words ≡ s.words
@@ -48,21 +58,37 @@ pub record Emptied (s s' : Search) : Type 0 where
   pub slot_room : vec_capacity s.slots ≤ vec_capacity s'.slots
   pub word_room : vec_capacity s'.words ≡ vec_capacity s.words
 
+-- the trail goes on by forced literals, or by none
+pub record GoesOn (t t' : Trail) : Type 0 where
+  pub more : Trail
+  pub trail : t' ≡ t ++ more
+  pub forced : All (λ e. e.decided ≡ false) more
+
+-- the trail stays, and there is room for as much
+pub record Extended (s s' : Search) : Type 0 where
+  pub trail : trail_in s' ≡ trail_in s
+  pub slot_room : vec_capacity s.slots ≤ vec_capacity s'.slots
+  pub word_room : vec_capacity s'.words ≡ vec_capacity s.words
+
 -- forced literals were put on the trail, or none
 pub record Goes (s s' : Search) : Type 0 where
   pub keeps : Keeps s s'
   pub debt : owes s' ≤ owes s
+  pub onward : GoesOn (trail_in s) (trail_in s')
 
 -- the same, and where it ends in a conflict, no model agrees with the trail
 pub record Follows {T E : Type 0} (s : Search) (r : Result T E) (s' : Search) : Type 0 where
   pub goes : Goes s s'
   pub conflict : OnErr r (Refutes s')
 
--- What a step comes to: more with a lower debt, a model, or none.
+-- What a step comes to, from a debt of d: more with a lower debt, a model, or none.
+abbrev pub TurnsFrom : ℕ → Answer → Search → Type 0
+TurnsFrom d More s' = owes s' + 1 ≤ d
+TurnsFrom d Model s' = Solves (vec_len s'.slots) (clauses_in s') (row_of (values_in s'))
+TurnsFrom d Unsatisfiable s' = Unsolvable (vec_len s'.slots) (clauses_in s')
+
 abbrev pub Turns : Search → Answer → Search → Type 0
-Turns s More s' = owes s' + 1 ≤ owes s
-Turns s Model s' = Solves (vec_len s'.slots) (clauses_in s') (row_of (values_in s'))
-Turns s Unsatisfiable s' = Unsolvable (vec_len s'.slots) (clauses_in s')
+Turns s a s' = TurnsFrom (owes s) a s'
 
 -- a step
 pub record Steps (s : Search) (a : Answer) (s' : Search) : Type 0 where

@@ -22,11 +22,12 @@ pub(crate) fn assign(slots: &mut [Slot], position: usize, entry: Entry)
     slots[position].entry = entry;
 }
 
-/// The first slot whose variable is open.
-fn first_open(slots: &[Slot]) -> Option<usize>
-    ensures { MatchOption result ((j : ℕ) → j < length slots.now → slice_index_or (values_of slots.now) j None ≢ None) (λ i. (i < length slots.now) × (slice_index_or (values_of slots.now) i None ≡ None)) }
+/// The first slot from `from` on, below `to`, whose variable is open.
+fn first_open(slots: &[Slot], from: usize, to: usize) -> Option<usize>
+    requires { to ≤ length slots.now }
+    ensures { MatchOption result ((j : ℕ) → from ≤ j → j < to → slice_index_or (values_of slots.now) j None ≢ None) (λ i. (i < to) × (slice_index_or (values_of slots.now) i None ≡ None)) }
 {
-    slots.iter().position(|slot| slot.value.is_none())
+    (from..to).find(|&i| slots[i].value.is_none())
 }
 
 /// A slot whose variable is open, looked for from `from` on and then before it.
@@ -34,10 +35,10 @@ pub(crate) fn choose(slots: &[Slot], from: usize) -> Option<usize>
     ensures { MatchOption result ((j : ℕ) → j < length (values_of slots.now) → slice_index_or (values_of slots.now) j None ≢ None) (λ i. (i < length slots.now) × (slice_index_or (values_of slots.now) i None ≡ None)) }
 {
     let middle = from.min(slots.len());
-    // By a `match`: of `map` and `or_else` over the two parts the check found no proof.
-    match first_open(&slots[middle..]) {
-        Some(i) => Some(middle + i),
-        None => first_open(&slots[..middle]),
+    // By a `match`: of `or_else` over the two parts the check found no proof.
+    match first_open(slots, middle, slots.len()) {
+        Some(i) => Some(i),
+        None => first_open(slots, 0, middle),
     }
 }
 

@@ -12,7 +12,7 @@ mod propagation;
 mod steps;
 
 /// A search for values that make every clause hold: a slot for each variable, the words of the clauses,
-/// and how far it has come. Without a step made, its trail is empty and every variable open.
+/// and how far it has come. The trail of a model stays until the next search's first step.
 #[derive(Drop)]
 pub(crate) struct Search {
     slots: Vec<Slot>,

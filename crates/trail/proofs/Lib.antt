@@ -3,6 +3,7 @@ pub mod Statuses
 pub mod Counting
 pub mod Debts
 pub mod Soundness
+pub mod Growing
 pub mod Verdicts
 pub mod Slots
 pub mod Memory

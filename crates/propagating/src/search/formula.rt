@@ -2,7 +2,7 @@
 ghost use Rattle.std.specs.Prelude.{◌≡◌, ℕ, ◌+◌, ◌≤◌, false, [], ◌∷◌, ◌++◌, length, vec_len, vec_capacity};
 ghost use Rattle.clause.specs.Logic.{some_outside};
 ghost use Rattle.trail.specs.Values.{row_of};
-ghost use Rattle.propagating.specs.Parts.{clauses_in, values_in, Keeps, Emptied};
+ghost use Rattle.propagating.specs.Parts.{clauses_in, values_in, Keeps, Emptied, Extended};
 
 use super::Search;
 use crate::memory::{open_all, store};
@@ -72,28 +72,26 @@ impl Search {
         self.progress.restart();
     }
 
-    /// So many variables more, and an empty trail.
+    /// So many variables more, all open; the trail stays.
     pub(crate) fn widen(&mut self, variables: usize)
         requires { vec_len self.old.slots + variables ≤ vec_capacity self.old.slots }
         ensures variables { vec_len self.new.slots ≡ vec_len self.old.slots + variables }
         ensures words { self.new.words ≡ self.old.words }
-        ensures emptied { Emptied self.old self.new }
+        ensures extended { Extended self.old self.new }
     {
-        self.restart();
         let all = self.slots.len() + variables;
         self.slots.resize(all, Slot::empty()).unwrap();
     }
 
-    /// Puts a clause last, and takes every literal off the trail.
+    /// Puts a clause last; the trail stays.
     pub(crate) fn store(&mut self, clause: &[Literal])
         requires room { vec_len self.old.words + (length clause.now + 1) ≤ vec_capacity self.old.words }
         requires inside { some_outside (vec_len self.old.slots) clause.now ≡ false }
         ensures clauses { clauses_in self.new ≡ clauses_in self.old ++ (clause.now ∷ []) }
         ensures words { vec_len self.new.words ≡ vec_len self.old.words + (length clause.now + 1) }
         ensures variables { vec_len self.new.slots ≡ vec_len self.old.slots }
-        ensures emptied { Emptied self.old self.new }
+        ensures extended { Extended self.old self.new }
     {
-        self.restart();
         store(&mut self.slots, &mut self.words, clause);
     }
 }

@@ -4,7 +4,7 @@ ghost use Rattle.clause.specs.Logic.{outside, some_outside};
 ghost use Rattle.clause.specs.Memory.{Begins};
 ghost use Rattle.trail.specs.Cells.{values_of, literals_of, size_at, clause_at};
 ghost use Rattle.trail.specs.Values.{truth, status, is_falsified};
-ghost use Rattle.propagating.specs.Parts.{clauses_in, values_in, owes, MayPush, Keeps, Follows};
+ghost use Rattle.propagating.specs.Parts.{clauses_in, values_in, owes, MayPush, Pushes, Keeps, Follows};
 
 use super::Search;
 use crate::memory::assign;
@@ -61,6 +61,7 @@ impl Search {
     /// Puts a literal last on the trail.
     pub(super) fn push(&mut self, entry: Entry)
         requires { MayPush self.old entry }
+        ensures pushes { Pushes self.old entry self.new }
         ensures keeps { Keeps self.old self.new }
         ensures debt { owes self.new + 1 ≤ owes self.old }
     {

@@ -1,6 +1,7 @@
 // One step of a search: propagation, and then a decision, a return from a conflict, or an answer.
-ghost use Rattle.std.specs.Prelude.{◌≡◌, ℕ, ◌+◌, ◌<◌, ◌≤◌, length, vec_len, None, IfOk, slice_index_or};
-ghost use Rattle.propagating.specs.Parts.{values_in, owes, Refutes, Keeps, Turns, Follows, Steps};
+ghost use Rattle.std.specs.Prelude.{◌≡◌, ℕ, ◌+◌, ◌<◌, ◌≤◌, length, vec_len, None, IfOk, OnErr, slice_index_or};
+ghost use Rattle.trail.specs.Debt.{nodes};
+ghost use Rattle.propagating.specs.Parts.{values_in, owes, Refutes, Pushes, decision, Keeps, TurnsFrom, Turns, Steps};
 
 use super::Search;
 use super::propagation::Conflict;
@@ -15,6 +16,7 @@ impl Search {
     fn decide(&mut self, slot: usize)
         requires place { slot < vec_len self.old.slots }
         requires opened { slice_index_or (values_in self.old) slot None ≡ None }
+        ensures pushes { Pushes self.old (decision slot) self.new }
         ensures keeps { Keeps self.old self.new }
         ensures debt { owes self.new + 1 ≤ owes self.old }
     {
@@ -52,7 +54,9 @@ impl Search {
 
     /// Propagates, and decides an open variable. Where none is open, all clauses hold, or there is a conflict.
     fn pursue(&mut self) -> Result<Answer, Conflict>
-        ensures follows { Follows self.old result self.new }
+        ensures keeps { Keeps self.old self.new }
+        ensures debt { owes self.new ≤ owes self.old }
+        ensures conflict { OnErr result (Refutes self.new) }
         ensures turns { IfOk result (λ a. Turns self.old a self.new) }
     {
         self.propagate()?;
@@ -77,10 +81,12 @@ impl Search {
         }
     }
 
-    /// The first step: every clause is looked at once.
+    /// The first step, from an empty trail: every clause is looked at once.
     pub(crate) fn begin(&mut self) -> Answer
-        ensures { Steps self.old result self.new }
+        ensures keeps { Keeps self.old self.new }
+        ensures turns { TurnsFrom (nodes (vec_len self.old.slots)) result self.new }
     {
+        self.restart();
         match self.sweep() {
             Ok(()) => self.advance(),
             Err(Conflict) => self.reverse(),

@@ -1,4 +1,4 @@
-use Rattle.std.proofs.Common.{ap, ◌∙◌, arith}
+use Rattle.std.proofs.Common.{refl, ap, ◌∙◌, arith}
 use Rattle.clause.specs.Logic.{outside}
 use Rattle.trail.specs.Cells.{entries_of}
 use Rattle.trail.proofs.Soundness.{not_full}
@@ -20,6 +20,12 @@ invariant_of-self c =
     let s = c.args.self.now in
     let p = put s.slots.items c.deref_mut.result.now c.assign.new.slots s.slots.len s.progress.trail c.args.entry c.deref_mut.ensures.value (c.assign.auto.slots ∙ c.deref_mut.ensures.len) c.assign.ensures.values c.assign.ensures.entries in
     record { loaded = s.loaded; standing = (further_in s c.args.entry _ c.requires p).standing }
+
+pub returns-clause-pushes : goal.returns-clause-pushes
+returns-clause-pushes c =
+    let s = c.args.self.now in
+    let p = put s.slots.items c.deref_mut.result.now c.assign.new.slots s.slots.len s.progress.trail c.args.entry c.deref_mut.ensures.value (c.assign.auto.slots ∙ c.deref_mut.ensures.len) c.assign.ensures.values c.assign.ensures.entries in
+    record { trail = refl; values = p.values; entries = p.entries }
 
 pub returns-clause-debt : goal.returns-clause-debt
 returns-clause-debt c =

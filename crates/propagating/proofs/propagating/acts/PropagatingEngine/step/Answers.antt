@@ -18,6 +18,6 @@ returns c =
       | in-Searching w ↦ comes_as s w.advance-answer.new.self t p w.advance-answer.result a (ap (λ x. x.1.0) w.self-is) w.answer-is
           (under_way s w.advance-answer.new.self p w.advance-answer.result (phase ∙ w.in-Searching.is) w.advance-answer.ensures.keeps w.advance-answer.ensures.turns)
       | in-Idle w ↦ comes_as s w.begin-answer.new.self t p w.begin-answer.result a (ap (λ x. x.1.0) w.self-is) w.answer-is
-          (first s w.begin-answer.new.self p w.begin-answer.result (phase ∙ w.in-Idle.is) e.idle w.begin-answer.ensures.keeps w.begin-answer.ensures.turns)
+          (first s w.begin-answer.new.self p w.begin-answer.result (phase ∙ w.in-Idle.is) w.begin-answer.ensures.keeps w.begin-answer.ensures.turns)
     ] in
     (counted.0, steps_to e t a _ _ _ (ap (λ x. x.count) counted.1) (ap (λ x. x.places) counted.1) c.from-self.ensures comes)
