@@ -2,7 +2,6 @@
 use crate::{read_bytes, write_fault};
 use refusal::fault::Fault;
 use refusal::refusal::Refusal;
-use refusal::role::Role;
 use std::io;
 use std::io::Write;
 use std::test::Fail;
@@ -48,7 +47,7 @@ impl Write for Counted {
 fn words_in_one_write(rt: HostRuntime) -> Result<(), Fail> {
     let longest = Fault::at(Refusal::Unlike, 255)
         .in_row(65_535)
-        .in_sheet(Role::Specification);
+        .in_sheet(2);
     let shown =
         b"specification, row 65535, column 255: target and specification differ in inputs or outputs\n";
     for (fault, line) in [
