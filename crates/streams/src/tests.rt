@@ -45,9 +45,7 @@ impl Write for Counted {
 
 #[test]
 fn words_in_one_write(rt: HostRuntime) -> Result<(), Fail> {
-    let longest = Fault::at(Refusal::Unlike, 255)
-        .in_row(65_535)
-        .in_sheet(2);
+    let longest = Fault::at(Refusal::Unlike, 255).in_row(65_535).in_sheet(2);
     let shown =
         b"specification, row 65535, column 255: target and specification differ in inputs or outputs\n";
     for (fault, line) in [
